@@ -1,5 +1,6 @@
 -- The number, the index and the part of every refusal, and when a list or a serial is refused.
 use mathlib.Core.Path.{_≡_}
+use mathlib.Core.List.{List, [], _∷_}
 use mathlib.Core.Bool.{Bool, true, false, cond, _||_}
 use Prim.Native.Nat.{ℕ, _^_}
 use lib.Dec.{eqb, ltb, leb}
@@ -79,6 +80,11 @@ questionTold question.NotOneLeft = refusal 17 0 part.Question
 abbrev pub codeTold : CodeFault → Refusal
 codeTold PastWidth = refusal 21 0 part.Code
 
+-- a fault in a run of names, where `due` tells of a word that is not the one due
+abbrev pub namesTold : (ℕ → Refusal) → NamesFault → Refusal
+namesTold due (names.Serial f) = serialTold f
+namesTold due (names.NotDue i) = due i
+
 -- a fault in a run of names, as part of an image and as part of an answer
 abbrev pub imageOfNames : NamesFault → ImageFault
 imageOfNames (names.Serial f) = image.Catalogue (catalogue.Serial f)
@@ -93,10 +99,11 @@ abbrev pub Says : {T F : Type 0} → (F → Refusal) → Result T F → Option R
 Says told (Ok x) due = due ≡ None
 Says told (Err f) due = due ≡ Some (told f)
 
--- the first of two refusals that applies
-abbrev pub orElse : Option Refusal → Option Refusal → Option Refusal
-orElse (Some r) later = Some r
-orElse None later = later
+-- the first refusal that applies
+abbrev pub firstOf : List (Option Refusal) → Option Refusal
+firstOf [] = None
+firstOf (Some r ∷ later) = Some r
+firstOf (None ∷ later) = firstOf later
 
 abbrev pub refuseIf : Bool → Refusal → Option Refusal
 refuseIf b r = cond b (Some r) None

@@ -1,6 +1,8 @@
 -- A word's two parts, and what each kind of word asks of its low bits and does to a stack.
+use mathlib.Core.Bool.{Bool}
 use mathlib.Core.List.{List, [], _∷_}
 use Prim.Native.Nat.{ℕ, _+_, _*_, _/_, _%_, _^_}
+use lib.Dec.{eqb}
 use lib.ListN.{getD}
 use Rattle.std.specs.declared.option.Option.{Option}
 use Rattle.std.specs.declared.option.Option.the-variants.{Some, None}
@@ -34,6 +36,9 @@ numberOf Child = 9
 numberOf Parent = 10
 numberOf RingHead = 11
 numberOf ImageEnd = 15
+
+abbrev pub isKind : WordKind → ℕ → Bool
+isKind kind w = eqb (kindNumber w) (numberOf kind)
 
 abbrev pub wordOf : WordKind → ℕ → ℕ
 wordOf kind n = numberOf kind * 2 ^ 28 + n

@@ -39,6 +39,8 @@ pub use word::LowBits;
 pub use word::StackEffect;
 pub use word::WordKind;
 pub use word::WordRule;
+pub use word::is_kind;
+pub use word::kind_number;
 pub use word::low_bits;
 pub use word::make_word;
 pub use word::rule;

@@ -1,7 +1,7 @@
 // A word: its kind in the top four bits, and what the kind says in the low 28.
 ghost use mathlib.Core.Path.{_≡_};
 ghost use Prim.Native.Nat.{ℕ, _+_, _*_, _/_, _%_, _^_, _<_};
-ghost use Rattle.words.specs.Words.{kindNumber, lowBits, wordOf, ruleOf};
+ghost use Rattle.words.specs.Words.{kindNumber, lowBits, numberOf, isKind, wordOf, ruleOf};
 
 #[derive(Clone, Copy, PartialEq, Eq)]
 pub enum WordKind {
@@ -161,11 +161,11 @@ pub fn low_bits(word: u32) -> u32
     word % LOW_RANGE
 }
 
-// The word of this kind with these low bits; bits above the low 28 are left out.
-pub fn make_word(kind: WordKind, low: u32) -> u32
-    ensures { λ r. ⌜ r ≡ wordOf kind (lowBits low) ⌝ }
+// The top four bits of a word of this kind.
+pub fn kind_number(kind: WordKind) -> u32
+    ensures { λ r. ⌜ r ≡ numberOf kind ⌝ }
 {
-    let number = match kind {
+    match kind {
         WordKind::Unused => 0,
         WordKind::Name => 1,
         WordKind::And => 2,
@@ -179,6 +179,18 @@ pub fn make_word(kind: WordKind, low: u32) -> u32
         WordKind::Parent => 10,
         WordKind::RingHead => 11,
         WordKind::ImageEnd => 15,
-    };
-    number * LOW_RANGE + low % LOW_RANGE
+    }
+}
+
+pub fn is_kind(word: u32, kind: WordKind) -> bool
+    ensures { λ r. ⌜ r ≡ isKind kind word ⌝ }
+{
+    word >> 28 == kind_number(kind)
+}
+
+// The word of this kind with these low bits; bits above the low 28 are left out.
+pub fn make_word(kind: WordKind, low: u32) -> u32
+    ensures { λ r. ⌜ r ≡ wordOf kind (lowBits low) ⌝ }
+{
+    kind_number(kind) * LOW_RANGE + low % LOW_RANGE
 }
