@@ -1,0 +1,119 @@
+-- What follows from a standing line, and where in a list a kind or a line stands.
+use mathlib.Core.Path.{_≡_, refl, sym, _∙_, ap}
+use mathlib.Core.List.{List, [], _∷_}
+use mathlib.Core.Bool.{Bool, true, false, _&&_, _||_}
+use mathlib.Core.Logic.{_⊎_, inl, inr}
+use Prim.Native.Nat.{ℕ, zero, suc, _<_}
+use native.Mathlib.Omega.{arith}
+use lib.ListN.{length, getD}
+use lib.Dec.{eqb}
+use Rattle.std.proofs.shelf.Tests.{false≢true, or-cases, and-parts, and-from, or-left, or-right, eqb-true, eq-eqb, cases-order, both-ways}
+use Rattle.descent.specs.declared.line.Line.{Line}
+use Rattle.descent.specs.Lines.{hasLine, mentioned, stands, Distinct}
+
+-- the first line of a list stands
+pub line-here : (l : Line) (ls : List Line) (c p : ℕ) → l .child ≡ c → l .parent ≡ p → hasLine c p (l ∷ ls) ≡ true
+line-here l ls c p e f =
+    or-left (eqb (l .child) c && eqb (l .parent) p) (hasLine c p ls)
+    (and-from (eqb (l .child) c) (eqb (l .parent) p) (eq-eqb (l .child) c e) (eq-eqb (l .parent) p f))
+
+-- what stands in the rest of a list stands in the list
+pub line-later : (l : Line) (ls : List Line) (c p : ℕ) → hasLine c p ls ≡ true → hasLine c p (l ∷ ls) ≡ true
+line-later l ls c p h = or-right (eqb (l .child) c && eqb (l .parent) p) (hasLine c p ls) h
+
+-- a line that stands is the first, or stands in the rest
+pub line-cases : (l : Line) (ls : List Line) (c p : ℕ) →
+    hasLine c p (l ∷ ls) ≡ true → ((l .child ≡ c) × (l .parent ≡ p)) ⊎ (hasLine c p ls ≡ true)
+line-cases l ls c p h =
+    elim (or-cases (eqb (l .child) c && eqb (l .parent) p) (hasLine c p ls) h) [
+      | inl e ↦
+          let q = and-parts (eqb (l .child) c) (eqb (l .parent) p) e in
+          inl (eqb-true (l .child) c (q .0), eqb-true (l .parent) p (q .1))
+      | inr e ↦ inr e
+    ]
+
+pub line-at : (ls : List Line) (i : ℕ) (d : Line) → i < length ls → hasLine (getD ls i d .child) (getD ls i d .parent) ls ≡ true
+line-at [] i d h = absurd (omega arith)
+line-at (l ∷ ls) zero d h = line-here l ls (l .child) (l .parent) refl refl
+line-at (l ∷ ls) (suc i) d h = line-later l ls (getD ls i d .child) (getD ls i d .parent) (line-at ls i d (omega arith))
+
+pub line-position : (c p : ℕ) (ls : List Line) (d : Line) → hasLine c p ls ≡ true →
+    (i : ℕ) × (i < length ls) × (getD ls i d .child ≡ c) × (getD ls i d .parent ≡ p)
+line-position c p [] d h = absurd (false≢true h)
+line-position c p (l ∷ ls) d h =
+    elim (line-cases l ls c p h) [
+      | inl e ↦ (0, omega arith, e .0, e .1)
+      | inr e ↦ let q = line-position c p ls d e in (suc (q .0), omega (arith, q .1), q .2, q .3)
+    ]
+
+pub line-mentions-child : (c p : ℕ) (ls : List Line) → hasLine c p ls ≡ true → mentioned c ls ≡ true
+line-mentions-child c p [] h = h
+line-mentions-child c p (l ∷ ls) h =
+    elim (line-cases l ls c p h) [
+      | inl e ↦
+          or-left (eqb (l .child) c || eqb (l .parent) c) (mentioned c ls)
+          (or-left (eqb (l .child) c) (eqb (l .parent) c) (eq-eqb (l .child) c (e .0)))
+      | inr e ↦ or-right (eqb (l .child) c || eqb (l .parent) c) (mentioned c ls) (line-mentions-child c p ls e)
+    ]
+
+pub line-mentions-parent : (c p : ℕ) (ls : List Line) → hasLine c p ls ≡ true → mentioned p ls ≡ true
+line-mentions-parent c p [] h = h
+line-mentions-parent c p (l ∷ ls) h =
+    elim (line-cases l ls c p h) [
+      | inl e ↦
+          or-left (eqb (l .child) p || eqb (l .parent) p) (mentioned p ls)
+          (or-right (eqb (l .child) p) (eqb (l .parent) p) (eq-eqb (l .parent) p (e .1)))
+      | inr e ↦ or-right (eqb (l .child) p || eqb (l .parent) p) (mentioned p ls) (line-mentions-parent c p ls e)
+    ]
+
+-- a kind has a line up, or a line down
+abbrev pub Lined : ℕ → List Line → Type 0
+Lined k ls = ((p : ℕ) × (hasLine k p ls ≡ true)) ⊎ ((c : ℕ) × (hasLine c k ls ≡ true))
+
+pub mentioned-lined : (k : ℕ) (ls : List Line) → mentioned k ls ≡ true → Lined k ls
+mentioned-lined k [] h = absurd (false≢true h)
+mentioned-lined k (l ∷ ls) h =
+    elim (or-cases (eqb (l .child) k || eqb (l .parent) k) (mentioned k ls) h) [
+      | inl e ↦
+          elim (or-cases (eqb (l .child) k) (eqb (l .parent) k) e) [
+            | inl q ↦ inl (l .parent, line-here l ls k (l .parent) (eqb-true (l .child) k q) refl)
+            | inr q ↦ inr (l .child, line-here l ls (l .child) k refl (eqb-true (l .parent) k q))
+          ]
+      | inr e ↦
+          elim (mentioned-lined k ls e) [
+            | inl q ↦ inl (q .0, line-later l ls k (q .0) (q .1))
+            | inr q ↦ inr (q .0, line-later l ls (q .0) k (q .1))
+          ]
+    ]
+
+pub stands-at : (xs : List ℕ) (i : ℕ) → i < length xs → stands (getD xs i 0) xs ≡ true
+stands-at [] i h = absurd (omega arith)
+stands-at (x ∷ xs) zero h = or-left (eqb x x) (stands x xs) (eq-eqb x x refl)
+stands-at (x ∷ xs) (suc i) h = or-right (eqb x (getD xs i 0)) (stands (getD xs i 0) xs) (stands-at xs i (omega arith))
+
+pub stands-position : (k : ℕ) (xs : List ℕ) → stands k xs ≡ true → (i : ℕ) × (i < length xs) × (getD xs i 0 ≡ k)
+stands-position k [] h = absurd (false≢true h)
+stands-position k (x ∷ xs) h =
+    elim (or-cases (eqb x k) (stands k xs) h) [
+      | inl e ↦ (0, omega arith, eqb-true x k e)
+      | inr e ↦ let q = stands-position k xs e in (suc (q .0), omega (arith, q .1), q .2)
+    ]
+
+-- in a list without repeats a number has one position
+pub same-position : (xs : List ℕ) → Distinct xs → (i j : ℕ) →
+    i < length xs → j < length xs → getD xs i 0 ≡ getD xs j 0 → i ≡ j
+same-position xs apart i j hi hj e =
+    elim (cases-order i j) [
+      | inl q ↦ q
+      | inr q ↦ elim q [ inl lt ↦ absurd (apart i j lt hj e) | inr gt ↦ absurd (apart j i gt hi (sym e)) ]
+    ]
+
+pub distinct-one : (x : ℕ) → Distinct (x ∷ [])
+distinct-one x i j lt h e = omega arith
+
+-- a number that is not in the list may be put before it
+pub distinct-more : (x : ℕ) (xs : List ℕ) → stands x xs ≡ false → Distinct xs → Distinct (x ∷ xs)
+distinct-more x xs out apart i zero lt h e = omega arith
+distinct-more x xs out apart zero (suc j) lt h e =
+    let k : j < length xs = omega arith in both-ways (stands x xs) out (rw e (stands-at xs j k))
+distinct-more x xs out apart (suc i) (suc j) lt h e = apart i j (omega arith) (omega arith) e
