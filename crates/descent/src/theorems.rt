@@ -1,7 +1,23 @@
 // Each function here states one theorem by its contract, and does nothing.
 ghost use Rattle.descent.specs.Descent.{Descends-decided};
+ghost use Rattle.descent.specs.Rings.{Ringed-decided, Ring-found, Ring-shows};
 
 // The test for descent answers as descent is defined.
 pub fn descent_is_decided()
     ensures { λ _. ⌜ Descends-decided ⌝ }
+{}
+
+// The test for rings tells whether some kind leads up to itself.
+pub fn rings_are_decided()
+    ensures { λ _. ⌜ Ringed-decided ⌝ }
+{}
+
+// Where the test for rings is passed, there is a ring of different kinds.
+pub fn ring_is_found()
+    ensures { λ _. ⌜ Ring-found ⌝ }
+{}
+
+// A ring of different kinds passes the test for rings.
+pub fn ring_shows()
+    ensures { λ _. ⌜ Ring-shows ⌝ }
 {}
