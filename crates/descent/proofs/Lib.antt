@@ -1,3 +1,4 @@
 pub mod Lines
 pub mod Descent
 pub mod Rings
+pub mod Closure

@@ -1,6 +1,7 @@
 // Each function here states one theorem by its contract, and does nothing.
 ghost use Rattle.descent.specs.Descent.{Descends-decided};
 ghost use Rattle.descent.specs.Rings.{Ringed-decided, Ring-found, Ring-shows};
+ghost use Rattle.descent.specs.Closure.{Closure-right, Closure-only-places};
 
 // The test for descent answers as descent is defined.
 pub fn descent_is_decided()
@@ -20,4 +21,14 @@ pub fn ring_is_found()
 // A ring of different kinds passes the test for rings.
 pub fn ring_shows()
     ensures { λ _. ⌜ Ring-shows ⌝ }
+{}
+
+// A table of lines, closed over all places, has at two kinds' places whether one descends from the other.
+pub fn closure_is_right()
+    ensures { λ _. ⌜ Closure-right ⌝ }
+{}
+
+// The closed table has nothing at a place of no kind.
+pub fn closure_has_only_places()
+    ensures { λ _. ⌜ Closure-only-places ⌝ }
 {}
