@@ -1,18 +1,19 @@
 -- The closed table has exactly the descents, and each step can be done in place.
 use mathlib.Core.Path.{_≡_, refl, sym, _∙_, ap}
-use mathlib.Core.List.{List, [], _∷_}
+use mathlib.Core.List.{List}
 use mathlib.Core.Bool.{Bool, true, false, _&&_, _||_}
 use mathlib.Core.Logic.{_⊎_, inl, inr}
 use Prim.Native.Nat.{ℕ, zero, suc, _≤_, _<_}
 use native.Mathlib.Omega.{arith}
 use lib.ListN.{length, getD}
 use Rattle.std.proofs.shelf.Tests.{both-ways, or-cases, or-left, or-right, and-parts, and-from, cases-bool, cases-eq}
+use Rattle.std.proofs.shelf.Ways.{same-from-decides}
 use Rattle.descent.specs.declared.line.Line.{Line}
-use Rattle.descent.specs.Lines.{hasLine, stands, Distinct}
-use Rattle.descent.specs.Descent.{Descends, self, up}
+use Rattle.descent.specs.Lines.{hasLine, stands}
+use Rattle.descent.specs.Descent.{Descends, self, up, descends}
 use Rattle.descent.specs.Closure.{closure, Placed, JustBelow, Direct, Closure-right, Closure-only-places}
 use Rattle.descent.proofs.Lines.{stands-at, stands-position, same-position}
-use Rattle.descent.proofs.Descent.{descends-refl, descends-trans}
+use Rattle.descent.proofs.Descent.{descends-refl, descends-trans, descends-decided}
 
 absorb-right : (x y : Bool) → (x || (x && y)) ≡ x
 absorb-right true y = refl
@@ -168,6 +169,14 @@ closure-right w kinds places ls r p d a b ha hb = (to, λ h. below-closure w kin
         let ea = one-kind w kinds places ls r p d (q .upper) a (getD places a 0) (q .upper-stands) ha (q .upper-place) refl in
         let eb = one-kind w kinds places ls r p d (q .lower) b (getD places b 0) (q .lower-stands) hb (q .lower-place) refl in
         rw (ea, eb) at (q .descent)
+
+-- the same, as one truth value
+pub closure-descends : (w : ℕ) (kinds places : List ℕ) (ls : List Line) (r : ℕ → ℕ → Bool) →
+    Placed w kinds places ls → Direct w kinds places ls r → (a b : ℕ) → a < length kinds → b < length kinds →
+    closure w r (getD places a 0) (getD places b 0) ≡ descends ls (getD kinds b 0) (getD kinds a 0)
+closure-descends w kinds places ls r p d a b ha hb =
+    same-from-decides (closure w r (getD places a 0) (getD places b 0)) (descends ls (getD kinds b 0) (getD kinds a 0))
+    (closure-right w kinds places ls r p d a b ha hb) (descends-decided ls (getD kinds b 0) (getD kinds a 0))
 
 -- a cell that is true stands at the places of two kinds
 pub closure-places : (w : ℕ) (kinds places : List ℕ) (ls : List Line) (r : ℕ → ℕ → Bool) →

@@ -1,13 +1,14 @@
 -- Descent as a relation: how walks are joined and shortened, and why the test for it is right.
-use mathlib.Core.Path.{_≡_, refl, sym, _∙_, ap}
+use mathlib.Core.Path.{_≡_, refl, sym, _∙_}
 use mathlib.Core.List.{List, [], _∷_}
-use mathlib.Core.Bool.{Bool, true, false, cond, _&&_, _||_}
-use mathlib.Core.Logic.{_⊎_, inl, inr, _↔_}
-use Prim.Native.Nat.{ℕ, zero, suc, _+_, _≤_, _<_}
+use mathlib.Core.Bool.{Bool, true, false, cond, _&&_}
+use mathlib.Core.Logic.{_⊎_, inl, inr}
+use Prim.Native.Nat.{ℕ, zero, suc, _≤_, _<_}
 use native.Mathlib.Omega.{arith}
 use lib.ListN.{length}
 use lib.Dec.{eqb}
 use Rattle.std.proofs.shelf.Tests.{false≢true, or-cases, and-parts, and-from, or-left, or-right, or-from, eqb-true, eqb-false, eq-eqb, ne-eqb, cases-eq, cases-bool}
+use Rattle.std.proofs.shelf.Ways.{same-from-decides, decides-like}
 use Rattle.descent.specs.declared.line.Line.{Line}
 use Rattle.descent.specs.Lines.{hasLine, stands, Distinct}
 use Rattle.descent.specs.Descent.{Descends, self, up, LeadsUp, one, more, someParent, reaches, descends, Descends-decided}
@@ -36,6 +37,11 @@ descends-leads (up h d) = inr (leads-from h d)
 pub leads-trans : {ls : List Line} {k m n : ℕ} → LeadsUp ls k m → LeadsUp ls m n → LeadsUp ls k n
 leads-trans (one h) q = more h q
 leads-trans (more h p) q = more h (leads-trans p q)
+
+-- descent, and a walk of one line or more from there on
+pub leads-after : {ls : List Line} {k m n : ℕ} → Descends ls k m → LeadsUp ls m n → LeadsUp ls k n
+leads-after self q = q
+leads-after (up h d) q = more h (leads-after d q)
 
 -- the first line of a walk, and the rest
 pub leads-first : {ls : List Line} {k m : ℕ} → LeadsUp ls k m → (p : ℕ) × (hasLine k p ls ≡ true) × Descends ls p m
@@ -234,3 +240,17 @@ descends-decided ls k m = (
   reaches-descends (length ls) ls k m,
   λ d. let q = path ls k m d in walk-reaches (length ls) ls k m (q .kinds) (q .short) (q .walk),
 )
+
+-- a kind descends from as many kinds, or more, by more lines
+pub descends-by-more : {ls ms : List Line} → ((c p : ℕ) → hasLine c p ls ≡ true → hasLine c p ms ≡ true) →
+    {k m : ℕ} → Descends ls k m → Descends ms k m
+descends-by-more more-lines self = self
+descends-by-more more-lines (up {k} {p} {m} h d) = up (more-lines k p h) (descends-by-more more-lines d)
+
+-- where the same lines stand, in whatever order, the test answers the same
+pub descends-alike : (ls ms : List Line) → ((c p : ℕ) → hasLine c p ls ≡ hasLine c p ms) →
+    (k m : ℕ) → descends ls k m ≡ descends ms k m
+descends-alike ls ms same k m =
+    same-from-decides (descends ls k m) (descends ms k m) (descends-decided ls k m)
+    (decides-like (descends ms k m) (descends-by-more (λ c p h. same c p ∙ h)) (descends-by-more (λ c p h. sym (same c p) ∙ h))
+    (descends-decided ms k m))

@@ -1,19 +1,20 @@
 -- Where some kind leads up to itself there is a ring, and the test finds it.
-use mathlib.Core.Path.{_≡_, refl, sym}
+use mathlib.Core.Path.{_≡_, refl, sym, _∙_}
 use mathlib.Core.List.{List, [], _∷_}
-use mathlib.Core.Bool.{Bool, true, false, _||_}
-use mathlib.Core.Logic.{_⊎_, inl, inr}
-use Prim.Native.Nat.{ℕ, zero, suc, _+_, _-_, _≤_, _<_}
+use mathlib.Core.Bool.{true, false}
+use mathlib.Core.Logic.{inl, inr}
+use Prim.Native.Nat.{ℕ, zero, suc, _-_, _≤_, _<_}
 use native.Mathlib.Numerals.{add-one}
 use native.Mathlib.Omega.{arith}
 use lib.ListN.{length, getD}
 use Rattle.std.proofs.shelf.Tests.{false≢true, both-ways, or-cases, or-left, or-right}
+use Rattle.std.proofs.shelf.Ways.{same-from-decides}
 use Rattle.descent.specs.declared.line.Line.{Line}
 use Rattle.descent.specs.Lines.{hasLine}
 use Rattle.descent.specs.Descent.{Descends, self, up, LeadsUp, descends}
-use Rattle.descent.specs.Rings.{Ring, someRound, ringed, No-own-parent, Ringed-decided, Ring-found, Ring-shows}
+use Rattle.descent.specs.Rings.{Ring, someRound, ringed, Ringed-decided, Ring-found, Ring-shows}
 use Rattle.descent.proofs.Lines.{line-here, line-later, line-cases}
-use Rattle.descent.proofs.Descent.{descends-refl, descends-trans, leads-from, leads-first, Walk, Path, path, descends-decided}
+use Rattle.descent.proofs.Descent.{descends-trans, leads-from, leads-first, Walk, Path, path, descends-decided, descends-by-more}
 
 some-round : (ls rest : List Line) → someRound ls rest ≡ true → (c : ℕ) × (p : ℕ) × (hasLine c p rest ≡ true) × Descends ls p c
 some-round ls [] h = absurd (false≢true h)
@@ -38,9 +39,12 @@ round-some ls (l ∷ rest) c p h d =
 pub ringed-by : (ls : List Line) (c p : ℕ) → hasLine c p ls ≡ true → Descends ls p c → ringed ls ≡ true
 ringed-by ls c p h d = round-some ls ls c p h d
 
+pub ringed-line : (ls : List Line) → ringed ls ≡ true → (c : ℕ) × (p : ℕ) × (hasLine c p ls ≡ true) × Descends ls p c
+ringed-line ls e = some-round ls ls e
+
 pub ringed-decided : Ringed-decided
 ringed-decided ls = (
-  λ e. let q = some-round ls ls e in (q .0, leads-from (q .2) (q .3)),
+  λ e. let q = ringed-line ls e in (q .0, leads-from (q .2) (q .3)),
   λ w. let q = leads-first (w .1) in ringed-by ls (w .0) (q .0) (q .1) (q .2),
 )
 
@@ -92,3 +96,13 @@ ring-shows ls ring r =
     let long = r .two in
     ringed-by ls (getD ring (length ring - 1) 0) (getD ring 0 0) (r .round)
     (ring-descends ls ring r (length ring - 1) (omega arith))
+
+-- where the same lines stand, in whatever order, the test answers the same
+pub ringed-alike : (ls ms : List Line) → ((c p : ℕ) → hasLine c p ls ≡ hasLine c p ms) → ringed ls ≡ ringed ms
+ringed-alike ls ms same =
+    same-from-decides (ringed ls) (ringed ms) (moved ls ms same, moved ms ls (λ c p. sym (same c p))) (λ e. e, λ e. e)
+  where
+    moved : (xs ys : List Line) → ((c p : ℕ) → hasLine c p xs ≡ hasLine c p ys) → ringed xs ≡ true → ringed ys ≡ true
+    moved xs ys alike e =
+        let q = ringed-line xs e in
+        ringed-by ys (q .0) (q .1) (sym (alike (q .0) (q .1)) ∙ q .2) (descends-by-more (λ c p h. sym (alike c p) ∙ h) (q .3))

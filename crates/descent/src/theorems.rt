@@ -1,6 +1,7 @@
 // Each function here states one theorem by its contract, and does nothing.
 ghost use Rattle.descent.specs.Descent.{Descends-decided};
 ghost use Rattle.descent.specs.Rings.{Ringed-decided, Ring-found, Ring-shows};
+ghost use Rattle.descent.specs.Coverage.{Covered-decided, Uppermost-decided, Under-uppermost};
 ghost use Rattle.descent.specs.Closure.{Closure-right, Closure-only-places};
 
 // The test for descent answers as descent is defined.
@@ -21,6 +22,21 @@ pub fn ring_is_found()
 // A ring of different kinds passes the test for rings.
 pub fn ring_shows()
     ensures { λ _. ⌜ Ring-shows ⌝ }
+{}
+
+// The test for covered kinds answers as they are defined.
+pub fn covered_is_decided()
+    ensures { λ _. ⌜ Covered-decided ⌝ }
+{}
+
+// The test for uppermost kinds answers as they are defined.
+pub fn uppermost_is_decided()
+    ensures { λ _. ⌜ Uppermost-decided ⌝ }
+{}
+
+// Where there is no ring, every covered kind lies under an uppermost one.
+pub fn covered_lies_under_uppermost()
+    ensures { λ _. ⌜ Under-uppermost ⌝ }
 {}
 
 // A table of lines, closed over all places, has at two kinds' places whether one descends from the other.
