@@ -1,15 +1,19 @@
 -- What follows from a standing line, and where in a list a kind or a line stands.
-use mathlib.Core.Path.{_≡_, refl, sym}
-use mathlib.Core.List.{List, [], _∷_}
-use mathlib.Core.Bool.{true, false, _&&_, _||_}
+use mathlib.Core.Path.{_≡_, refl, sym, _∙_, ap}
+use mathlib.Core.List.{List, [], _∷_, _++_}
+use mathlib.Core.Bool.{Bool, true, false, _&&_, _||_}
 use mathlib.Core.Logic.{_⊎_, inl, inr}
 use Prim.Native.Nat.{ℕ, zero, suc, _<_}
 use native.Mathlib.Omega.{arith}
 use lib.ListN.{length, getD}
 use lib.Dec.{eqb}
-use Rattle.std.proofs.shelf.Tests.{false≢true, or-cases, and-parts, and-from, or-left, or-right, eqb-true, eq-eqb, cases-order, both-ways}
+use Rattle.std.proofs.shelf.Tests.{false≢true, or-cases, and-parts, and-from, or-left, or-right, eqb-true, eq-eqb, cases-order, both-ways, cases-bool}
 use Rattle.descent.specs.declared.line.Line.{Line}
 use Rattle.descent.specs.Lines.{hasLine, mentioned, stands, Distinct}
+
+or-assoc : (x y z : Bool) → ((x || y) || z) ≡ (x || (y || z))
+or-assoc true y z = refl
+or-assoc false y z = refl
 
 -- the first line of a list stands
 pub line-here : (l : Line) (ls : List Line) (c p : ℕ) → l .child ≡ c → l .parent ≡ p → hasLine c p (l ∷ ls) ≡ true
@@ -117,3 +121,37 @@ distinct-more x xs out apart i zero lt h e = omega arith
 distinct-more x xs out apart zero (suc j) lt h e =
     let k : j < length xs = omega arith in both-ways (stands x xs) out (rw e (stands-at xs j k))
 distinct-more x xs out apart (suc i) (suc j) lt h e = apart i j (omega arith) (omega arith) e
+
+-- what no place of the list has does not stand
+pub stands-none : (k : ℕ) (xs : List ℕ) → ((i : ℕ) → i < length xs → getD xs i 0 ≡ k → ⊥) → stands k xs ≡ false
+stands-none k xs out =
+    elim (cases-bool (stands k xs)) [
+      | inl e ↦ let q = stands-position k xs e in absurd (out (q .0) (q .1) (q .2))
+      | inr e ↦ e
+    ]
+
+pub line-none : (c p : ℕ) (ls : List Line) (d : Line) →
+    ((i : ℕ) → i < length ls → getD ls i d .child ≡ c → getD ls i d .parent ≡ p → ⊥) → hasLine c p ls ≡ false
+line-none c p ls d out =
+    elim (cases-bool (hasLine c p ls)) [
+      | inl e ↦ let q = line-position c p ls d e in absurd (out (q .0) (q .1) (q .2) (q .3))
+      | inr e ↦ e
+    ]
+
+-- lists one after the other
+pub stands-append : (k : ℕ) (xs ys : List ℕ) → stands k (xs ++ ys) ≡ (stands k xs || stands k ys)
+stands-append k [] ys = refl
+stands-append k (x ∷ xs) ys =
+    ap (λ b. eqb x k || b) (stands-append k xs ys) ∙ sym (or-assoc (eqb x k) (stands k xs) (stands k ys))
+
+pub line-append : (c p : ℕ) (ls ms : List Line) → hasLine c p (ls ++ ms) ≡ (hasLine c p ls || hasLine c p ms)
+line-append c p [] ms = refl
+line-append c p (l ∷ ls) ms =
+    ap (λ b. (eqb (l .child) c && eqb (l .parent) p) || b) (line-append c p ls ms)
+    ∙ sym (or-assoc (eqb (l .child) c && eqb (l .parent) p) (hasLine c p ls) (hasLine c p ms))
+
+pub mentioned-append : (k : ℕ) (ls ms : List Line) → mentioned k (ls ++ ms) ≡ (mentioned k ls || mentioned k ms)
+mentioned-append k [] ms = refl
+mentioned-append k (l ∷ ls) ms =
+    ap (λ b. (eqb (l .child) k || eqb (l .parent) k) || b) (mentioned-append k ls ms)
+    ∙ sym (or-assoc (eqb (l .child) k || eqb (l .parent) k) (mentioned k ls) (mentioned k ms))

@@ -25,20 +25,23 @@ abbrev pub eachKind : (ℕ → Bool) → List ℕ → Bool
 eachKind test [] = true
 eachKind test (k ∷ ks) = test k && eachKind test ks
 
--- the tests for the two
+-- the test for covered kinds
 abbrev pub covered : List ℕ → List Line → (ℕ → Bool) → ℕ → Bool
 covered kinds ls set k = eachKind (λ d. not (descends ls d k) || set d) kinds
 
+-- the test for uppermost kinds
 abbrev pub uppermost : List ℕ → List Line → (ℕ → Bool) → ℕ → Bool
 uppermost kinds ls set u =
     (stands u kinds && covered kinds ls set u)
     && eachKind (λ m. not (covered kinds ls set m && descends ls u m) || eqb m u) kinds
 
+-- the test is passed exactly by the covered kinds
 abbrev pub Covered-decided : Type 0
 Covered-decided =
     (kinds : List ℕ) (ls : List Line) (set : ℕ → Bool) (k : ℕ) →
     (covered kinds ls set k ≡ true) ↔ Covered kinds ls set k
 
+-- the test is passed exactly by the uppermost kinds
 abbrev pub Uppermost-decided : Type 0
 Uppermost-decided =
     (kinds : List ℕ) (ls : List Line) (set : ℕ → Bool) (u : ℕ) →

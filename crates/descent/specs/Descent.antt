@@ -33,5 +33,6 @@ reaches (suc n) ls k m = eqb k m || someParent k (λ p. reaches n ls p m) ls
 abbrev pub descends : List Line → ℕ → ℕ → Bool
 descends ls k m = reaches (length ls) ls k m
 
+-- the test is passed exactly by the kinds that descend
 abbrev pub Descends-decided : Type 0
 Descends-decided = (ls : List Line) (k m : ℕ) → (descends ls k m ≡ true) ↔ Descends ls k m

@@ -37,5 +37,6 @@ No-own-parent ls = (k : ℕ) → hasLine k k ls ≡ false
 abbrev pub Ring-found : Type 0
 Ring-found = (ls : List Line) → No-own-parent ls → ringed ls ≡ true → (ring : List ℕ) × Ring ls ring
 
+-- and lines with a ring among them pass the test
 abbrev pub Ring-shows : Type 0
 Ring-shows = (ls : List Line) (ring : List ℕ) → Ring ls ring → ringed ls ≡ true
