@@ -3,13 +3,18 @@ use mathlib.Core.Path.{_≡_, refl, sym, _∙_, ap}
 use mathlib.Core.List.{List, [], _∷_, _++_}
 use mathlib.Core.Bool.{Bool, true, false, _&&_, _||_}
 use mathlib.Core.Logic.{_⊎_, inl, inr}
-use Prim.Native.Nat.{ℕ, zero, suc, _<_}
+use Prim.Native.Nat.{ℕ, zero, suc, _+_, _<_}
 use native.Mathlib.Omega.{arith}
-use lib.ListN.{length, getD}
+use lib.ListN.{length, getD, take}
 use lib.Dec.{eqb}
+use Rattle.std.proofs.shelf.Lists.{take-more}
 use Rattle.std.proofs.shelf.Tests.{false≢true, or-cases, and-parts, and-from, or-left, or-right, eqb-true, eq-eqb, cases-order, both-ways, cases-bool}
 use Rattle.descent.specs.declared.line.Line.{Line}
 use Rattle.descent.specs.Lines.{hasLine, mentioned, stands, Distinct}
+
+or-false : (x : Bool) → (x || false) ≡ x
+or-false true = refl
+or-false false = refl
 
 or-assoc : (x y z : Bool) → ((x || y) || z) ≡ (x || (y || z))
 or-assoc true y z = refl
@@ -36,10 +41,15 @@ line-cases l ls c p h =
       | inr e ↦ inr e
     ]
 
+-- a line that some place of the list has stands
+pub line-found : (c p : ℕ) (ls : List Line) (i : ℕ) (d : Line) →
+    i < length ls → getD ls i d .child ≡ c → getD ls i d .parent ≡ p → hasLine c p ls ≡ true
+line-found c p [] i d h e f = absurd (omega arith)
+line-found c p (l ∷ ls) zero d h e f = line-here l ls c p e f
+line-found c p (l ∷ ls) (suc i) d h e f = line-later l ls c p (line-found c p ls i d (omega arith) e f)
+
 pub line-at : (ls : List Line) (i : ℕ) (d : Line) → i < length ls → hasLine (getD ls i d .child) (getD ls i d .parent) ls ≡ true
-line-at [] i d h = absurd (omega arith)
-line-at (l ∷ ls) zero d h = line-here l ls (l .child) (l .parent) refl refl
-line-at (l ∷ ls) (suc i) d h = line-later l ls (getD ls i d .child) (getD ls i d .parent) (line-at ls i d (omega arith))
+line-at ls i d h = line-found (getD ls i d .child) (getD ls i d .parent) ls i d h refl refl
 
 pub line-position : (c p : ℕ) (ls : List Line) (d : Line) → hasLine c p ls ≡ true →
     (i : ℕ) × (i < length ls) × (getD ls i d .child ≡ c) × (getD ls i d .parent ≡ p)
@@ -90,10 +100,14 @@ mentioned-lined k (l ∷ ls) h =
           ]
     ]
 
+-- a kind that some place of the list has stands
+pub stands-found : (k : ℕ) (xs : List ℕ) (i : ℕ) → i < length xs → getD xs i 0 ≡ k → stands k xs ≡ true
+stands-found k [] i h e = absurd (omega arith)
+stands-found k (x ∷ xs) zero h e = or-left (eqb x k) (stands k xs) (eq-eqb x k e)
+stands-found k (x ∷ xs) (suc i) h e = or-right (eqb x k) (stands k xs) (stands-found k xs i (omega arith) e)
+
 pub stands-at : (xs : List ℕ) (i : ℕ) → i < length xs → stands (getD xs i 0) xs ≡ true
-stands-at [] i h = absurd (omega arith)
-stands-at (x ∷ xs) zero h = or-left (eqb x x) (stands x xs) (eq-eqb x x refl)
-stands-at (x ∷ xs) (suc i) h = or-right (eqb x (getD xs i 0)) (stands (getD xs i 0) xs) (stands-at xs i (omega arith))
+stands-at xs i h = stands-found (getD xs i 0) xs i h refl
 
 pub stands-position : (k : ℕ) (xs : List ℕ) → stands k xs ≡ true → (i : ℕ) × (i < length xs) × (getD xs i 0 ≡ k)
 stands-position k [] h = absurd (false≢true h)
@@ -155,3 +169,27 @@ mentioned-append k [] ms = refl
 mentioned-append k (l ∷ ls) ms =
     ap (λ b. (eqb (l .child) k || eqb (l .parent) k) || b) (mentioned-append k ls ms)
     ∙ sym (or-assoc (eqb (l .child) k || eqb (l .parent) k) (mentioned k ls) (mentioned k ms))
+
+-- one place more of a list
+pub stands-more : (k : ℕ) (xs : List ℕ) (i : ℕ) → i < length xs →
+    stands k (take (i + 1) xs) ≡ (stands k (take i xs) || eqb (getD xs i 0) k)
+stands-more k xs i h =
+    ap (stands k) (take-more xs i 0 h)
+    ∙ stands-append k (take i xs) (getD xs i 0 ∷ [])
+    ∙ ap (λ b. stands k (take i xs) || b) (or-false (eqb (getD xs i 0) k))
+
+pub line-more : (c p : ℕ) (ls : List Line) (i : ℕ) (d : Line) → i < length ls →
+    hasLine c p (take (i + 1) ls)
+    ≡ (hasLine c p (take i ls) || (eqb (getD ls i d .child) c && eqb (getD ls i d .parent) p))
+line-more c p ls i d h =
+    ap (hasLine c p) (take-more ls i d h)
+    ∙ line-append c p (take i ls) (getD ls i d ∷ [])
+    ∙ ap (λ b. hasLine c p (take i ls) || b) (or-false (eqb (getD ls i d .child) c && eqb (getD ls i d .parent) p))
+
+pub mentioned-more : (k : ℕ) (ls : List Line) (i : ℕ) (d : Line) → i < length ls →
+    mentioned k (take (i + 1) ls)
+    ≡ (mentioned k (take i ls) || (eqb (getD ls i d .child) k || eqb (getD ls i d .parent) k))
+mentioned-more k ls i d h =
+    ap (mentioned k) (take-more ls i d h)
+    ∙ mentioned-append k (take i ls) (getD ls i d ∷ [])
+    ∙ ap (λ b. mentioned k (take i ls) || b) (or-false (eqb (getD ls i d .child) k || eqb (getD ls i d .parent) k))
