@@ -1,0 +1,5 @@
+pub mod Lines
+pub mod Descent
+pub mod Rings
+pub mod Coverage
+pub mod Closure
