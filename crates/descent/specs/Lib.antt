@@ -3,3 +3,5 @@ pub mod Descent
 pub mod Rings
 pub mod Coverage
 pub mod Closure
+pub mod Order
+pub mod Proper
