@@ -1,0 +1,10 @@
+// A catalogue of kinds and lines: entering, withdrawing, its image, and recalling kept answers.
+mod enter;
+mod search;
+mod state;
+
+pub use enter::MAX_LINES;
+pub use enter::MAX_WIDTH;
+pub use enter::SetUpFault;
+pub use enter::SetUpFromAlloc;
+pub use state::Catalogue;
