@@ -1,6 +1,6 @@
 -- The first refusal that applies, check by check.
 use mathlib.Core.Path.{_≡_, refl, ap, _∙_}
-use mathlib.Core.List.{List, _∷_}
+use mathlib.Core.List.{List, [], _∷_}
 use mathlib.Core.Bool.{Bool, true, false}
 use Rattle.std.specs.declared.option.Option.{Option}
 use Rattle.std.specs.declared.option.Option.the-variants.{Some, None}
@@ -39,3 +39,7 @@ good-serial x i e =
 pub all-pass : (o : Option Refusal) (later : List (Option Refusal)) → firstOf (o ∷ later) ≡ None → (o ≡ None) × (firstOf later ≡ None)
 all-pass None later e = (refl, e)
 all-pass (Some r) later e = let z : _≡_ {A = ℕ} 0 1 = cc in absurd (omega arith)
+
+pub last-check : (o r : Option Refusal) → o ≡ r → firstOf (o ∷ []) ≡ r
+last-check None r e = e
+last-check (Some q) r e = e

@@ -5,3 +5,6 @@ pub mod Seating
 pub mod Moves
 pub mod KindEdits
 pub mod LineEdits
+pub mod NameRuns
+pub mod Keeping
+pub mod AnswerChecks

@@ -1,4 +1,5 @@
 -- Answers and images as words, and what is wrong with words that are none.
+use mathlib.Core.Path.{_≡_}
 use mathlib.Core.List.{List, [], _∷_, _++_, map}
 use mathlib.Core.Bool.{Bool, cond, not}
 use Prim.Native.Nat.{ℕ, zero, suc, _+_, _*_}
@@ -7,6 +8,8 @@ use lib.ListN.{length, take, drop}
 use Rattle.std.specs.shelf.Lists.{joined}
 use Rattle.std.specs.declared.option.Option.{Option}
 use Rattle.std.specs.declared.option.Option.the-variants.{Some, None}
+use Rattle.std.specs.declared.result.Result.{Result}
+use Rattle.std.specs.declared.result.Result.the-variants.{Ok, Err}
 use Rattle.descent.specs.declared.line.Line.{Line}
 use Rattle.descent.specs.Lines.{stands}
 use Rattle.words.specs.declared.refusal.Refusal.{Refusal}
@@ -35,6 +38,11 @@ imageOf kinds lines = imageBody kinds lines ++ wordOf ImageEnd (length (imageBod
 abbrev pub imageLength : List ℕ → List Line → ℕ
 imageLength kinds lines = 2 + length kinds + 2 * length lines
 
+-- words written from the start of a list, whose later words stay; a refusal leaves the list as it was
+abbrev pub Listed : {F : Type 0} → List ℕ → List ℕ → List ℕ → Result ℕ F → Type 0
+Listed words old new (Ok n) = (n ≡ length words) × (new ≡ words ++ drop (length words) old)
+Listed words old new (Err f) = new ≡ old
+
 -- the serials in a run of words
 abbrev pub serialsIn : List ℕ → List ℕ
 serialsIn = map lowBits
@@ -46,16 +54,19 @@ notDue i = refusal 19 i part.Image
 abbrev pub notAnswer : ℕ → Refusal
 notAnswer i = refusal 20 i part.Answer
 
--- the leftmost fault in n names that begin at index i, each serial above the one before
-abbrev pub namesRefusal : (ℕ → Refusal) → ℕ → ℕ → ℕ → List ℕ → Option Refusal
-namesRefusal due zero last i ws = None
-namesRefusal due (suc n) last i [] = Some (due i)
-namesRefusal due (suc n) last i (w ∷ ws) =
+-- the word at index i as a name whose serial is above the one before
+abbrev pub nameRefusal : (ℕ → Refusal) → ℕ → ℕ → ℕ → Option Refusal
+nameRefusal due last i w =
     firstOf (refuseIf (not (isKind Name w)) (due i)
     ∷ serialRefusal (lowBits w) i
     ∷ refuseIf (leb (lowBits w) last) (due i)
-    ∷ namesRefusal due n (lowBits w) (i + 1) ws
     ∷ [])
+
+-- the leftmost fault in n names that begin at index i, the serial of each above the one before
+abbrev pub namesRefusal : (ℕ → Refusal) → ℕ → ℕ → ℕ → List ℕ → Option Refusal
+namesRefusal due zero last i ws = None
+namesRefusal due (suc n) last i [] = Some (due i)
+namesRefusal due (suc n) last i (w ∷ ws) = firstOf (nameRefusal due last i w ∷ namesRefusal due n (lowBits w) (i + 1) ws ∷ [])
 
 -- a word at index i where none is due
 abbrev pub nothingDue : (ℕ → Refusal) → ℕ → List ℕ → Option Refusal

@@ -14,7 +14,7 @@ use Rattle.words.specs.declared.refusal.Part.the-variants as part
 use Rattle.words.specs.Refusals.{refusal, refuseIf, firstOf, listRefusal, serialRefusal}
 use Rattle.descent.specs.Order.{lineKey}
 use Rattle.catalogue.specs.Order.{filed}
-use Rattle.catalogue.specs.Formats.{imageLength, imageRefusal, kindsIn, linesIn, answerRefusal}
+use Rattle.catalogue.specs.Formats.{imageLength, imageRefusal, kindsIn, linesIn, answerRefusal, namedIn}
 
 pub record Ledger : Type 0 where
   -- how many places there are
@@ -88,3 +88,7 @@ unless (Some r) new old = old
 
 abbrev pub after : Ledger → Call → Ledger
 after l call = unless (refused l call) (accepted l call) l
+
+-- of the kinds that an answer names, those that stand
+abbrev pub stillStanding : Ledger → List ℕ → List ℕ
+stillStanding l answer = kept-by (λ k. stands k (l .kinds)) (namedIn answer)

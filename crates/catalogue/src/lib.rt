@@ -1,5 +1,7 @@
 // A catalogue of kinds and lines: entering, withdrawing, its image, and recalling kept answers.
 mod enter;
+mod names;
+mod recall;
 mod search;
 mod state;
 

@@ -24,6 +24,7 @@ pub use refusal::ImageFromNames;
 pub use refusal::ListFault;
 pub use refusal::ListFaultTold;
 pub use refusal::NamesFault;
+pub use refusal::NamesFromSerial;
 pub use refusal::Part;
 pub use refusal::QuestionFault;
 pub use refusal::QuestionFaultTold;

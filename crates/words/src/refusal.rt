@@ -7,6 +7,7 @@ ghost use Rattle.words.specs.declared.refusal.ImageFault.the-variants as image
 ghost use Rattle.words.specs.declared.refusal.AnswerFault.the-variants as answer;
 ghost use Rattle.words.specs.declared.refusal.ClosingFault.the-variants as closing;
 ghost use Rattle.words.specs.declared.refusal.QuestionFault.the-variants as question;
+ghost use Rattle.words.specs.declared.refusal.NamesFault.the-variants as names;
 ghost use Rattle.words.specs.Refusals.{Says, listTold, serialTold, catalogueTold, imageTold, answerTold, closingTold, questionTold, codeTold, listRefusal, imageOfNames, answerOfNames};
 
 // The part of the finder that checks a rule.
@@ -345,6 +346,14 @@ pub impl From<CatalogueFault> for QuestionFault as QuestionFromCatalogue {
 
     fn from(fault: CatalogueFault) -> QuestionFault {
         QuestionFault::Catalogue(fault)
+    }
+}
+
+pub impl From<SerialFault> for NamesFault as NamesFromSerial {
+    ghost converts = { λ x y. y ≡ names.Serial x };
+
+    fn from(fault: SerialFault) -> NamesFault {
+        NamesFault::Serial(fault)
     }
 }
 
