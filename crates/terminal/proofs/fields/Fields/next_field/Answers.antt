@@ -1,0 +1,19 @@
+use mathlib.Core.Path.{_≡_, sym, ap, _∙_}
+use mathlib.Core.List.{[]}
+use native.Mathlib.Omega.{arith}
+use lib.ListN.{drop}
+use Rattle.std.proofs.shelf.Lists.{drop-all, length-drop}
+use Rattle.terminal.specs.Fields.{fields}
+use Rattle.terminal.proofs.fields.Fields.next_field.Needs as need
+
+pub returns-then-start-line : need.returns-then-start-line
+returns-then-start-line c =
+    let none = ap fields (drop-all (c .skip-spaces-start .result) (c .args .self .now .line .now) (c .if-start-line .taken)) in
+    record { cases = sym (c .skip-spaces-start .ensures .same) ∙ none; left = none }
+
+pub returns : need.returns
+returns c =
+    record {
+      cases = sym (c .skip-spaces-start .ensures .same) ∙ c .field-end-end .ensures .field;
+      left = simp length-drop (omega arith);
+    }
