@@ -9,9 +9,10 @@ use lib.Dec.{eqb, ltb}
 use lib.ListN.{length, getD, take}
 use Rattle.std.specs.declared.option.Option.{Option}
 use Rattle.std.specs.declared.option.Option.the-variants.{Some, None}
+use Rattle.std.specs.Options.{isSome}
 use Rattle.std.specs.shelf.Lists.{joined}
 use Rattle.std.proofs.shelf.Lists.{joined-more, take-more}
-use Rattle.std.proofs.shelf.Tests.{or-from, ne-eqb, cases-lt}
+use Rattle.std.proofs.shelf.Tests.{false≢true, or-from, ne-eqb}
 use Rattle.terminal.specs.Fields.{isSpace, anySpace, whole, fieldsAfter, fields}
 use Rattle.terminal.specs.Lists.{before, wordsIn, spaced, ReadsBack}
 use Rattle.terminal.specs.Numbers.{wordIn, hexDigit, hexDigits}
@@ -36,6 +37,15 @@ words-other words field left e = ap (λ o. behind words (before o (wordsIn left)
 
 pub words-all : (words : List ℕ) → behind words (wordsIn []) ≡ Some words
 words-all words = ap Some (append-nil words)
+
+some-before : (word : Option ℕ) (more : Option (List ℕ)) → isSome word ≡ true → isSome more ≡ isSome (before word more)
+some-before (Some word) (Some more) e = refl
+some-before (Some word) None e = refl
+some-before None more e = absurd (false≢true e)
+
+-- behind a field that is a word, all are words where the others are
+pub all-more : (field : List ℕ) (left : List (List ℕ)) → isSome (wordIn field) ≡ true → isSome (wordsIn left) ≡ isSome (wordsIn (field ∷ left))
+all-more field left e = some-before (wordIn field) (wordsIn left) e
 
 -- a digit is no space
 isSpace-hexDigit : (d : ℕ) → isSpace (hexDigit d) ≡ false

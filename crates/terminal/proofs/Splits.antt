@@ -1,5 +1,5 @@
 -- How the fields of a line go on, byte by byte.
-use mathlib.Core.Path.{_≡_, refl, sym, ap, _∙_}
+use mathlib.Core.Path.{_≡_, refl, sym, ap, subst, _∙_}
 use mathlib.Core.Logic.{_⊎_, inl, inr, ⊎-elim}
 use mathlib.Core.Bool.{true, false, cond, _||_}
 use mathlib.Core.List.{List, [], _∷_, _++_, map, append-assoc, append-nil}
@@ -8,9 +8,10 @@ use native.Mathlib.Nat.{add-zero}
 use native.Mathlib.Omega.{arith}
 use lib.Dec.{eqb}
 use lib.ListN.{length, getD, take, drop}
+use Rattle.std.specs.shelf.Lists.{All}
 use Rattle.std.proofs.shelf.Lists.{drop-more, drop-all, take-more, getD-drop, length-drop, length-take}
-use Rattle.std.proofs.shelf.Tests.{or-parts}
-use Rattle.terminal.specs.Fields.{isSpace, anySpace, whole, fieldsAfter, fields}
+use Rattle.std.proofs.shelf.Tests.{or-parts, or-from, cond-both}
+use Rattle.terminal.specs.Fields.{isSpace, anySpace, whole, fieldsAfter, fields, Plain}
 
 -- a space before the first field is no part of it
 pub skip-more : (line : List ℕ) (i : ℕ) → i < length line → isSpace (getD line i 0) ≡ true → fields (drop (i + 1) line) ≡ fields (drop i line)
@@ -46,3 +47,23 @@ run-all begun [] left e = ap (λ b. fieldsAfter b left) (sym (append-nil begun))
 run-all begun (x ∷ run) left e =
     let p = or-parts (isSpace x) (anySpace run) e in
     rw (p .0) (run-all (begun ++ x ∷ []) run left (p .1) ∙ ap (λ b. fieldsAfter b left) (append-assoc begun (x ∷ []) run))
+
+anySpace-push : (bytes : List ℕ) (byte : ℕ) → anySpace bytes ≡ false → isSpace byte ≡ false → anySpace (bytes ++ byte ∷ []) ≡ false
+anySpace-push [] byte e f = or-from _ _ f refl
+anySpace-push (b ∷ bytes) byte e f = let p = or-parts (isSpace b) (anySpace bytes) e in or-from _ _ (p .0) (anySpace-push bytes byte (p .1) f)
+
+plain-whole : (begun : List ℕ) (more : List (List ℕ)) → anySpace begun ≡ false → All Plain more → All Plain (whole begun ++ more)
+plain-whole [] more e all = all
+plain-whole (b ∷ begun) more e all = ((omega arith, e), all)
+
+-- no field is empty or has a space in it
+plain-after : (begun line : List ℕ) → anySpace begun ≡ false → All Plain (fieldsAfter begun line)
+plain-after [] [] e = tt
+plain-after (b ∷ begun) [] e = ((omega arith, e), tt)
+plain-after begun (byte ∷ line) e =
+    cond-both (isSpace byte) (whole begun ++ fieldsAfter [] line) (fieldsAfter (begun ++ byte ∷ []) line) (λ fs. All Plain fs)
+    (λ _. plain-whole begun (fieldsAfter [] line) e (plain-after [] line refl))
+    (λ f. plain-after (begun ++ byte ∷ []) line (anySpace-push begun byte e f))
+
+pub plain-first : (line field : List ℕ) (more : List (List ℕ)) → fields line ≡ field ∷ more → Plain field
+plain-first line field more e = let P : List (List ℕ) → Type 0 = λ fs. All Plain fs in subst P e (plain-after [] line refl) .0

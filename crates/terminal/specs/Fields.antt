@@ -1,9 +1,10 @@
 -- The fields of a line: its longest runs of bytes that are not spaces.
+use mathlib.Core.Path.{_≡_}
 use mathlib.Core.Bool.{Bool, false, cond, _||_}
 use mathlib.Core.List.{List, [], _∷_, _++_}
-use Prim.Native.Nat.{ℕ}
+use Prim.Native.Nat.{ℕ, _<_}
 use lib.Dec.{eqb}
-use lib.ListN.{drop}
+use lib.ListN.{length, drop}
 use denote.Ref.{now}
 use Rattle.terminal.specs.declared.fields.Fields as reader
 
@@ -27,6 +28,10 @@ fieldsAfter begun (byte ∷ bytes) = cond (isSpace byte) (whole begun ++ fieldsA
 
 abbrev pub fields : List ℕ → List (List ℕ)
 fields line = fieldsAfter [] line
+
+-- a byte or more, and no space among them
+abbrev pub Plain : List ℕ → Type 0
+Plain field = (0 < length field) × (anySpace field ≡ false)
 
 -- what a reader has still to read of its line
 abbrev pub rest : reader.Fields → List ℕ

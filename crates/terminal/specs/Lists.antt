@@ -22,10 +22,10 @@ abbrev pub wordsIn : List (List ℕ) → Option (List ℕ)
 wordsIn [] = Some []
 wordsIn (field ∷ more) = before (wordIn field) (wordsIn more)
 
--- a field is refused only where it is no word
+-- fields are refused where one of them is no word, and only there
 abbrev pub Unread : List (List ℕ) → FieldFault → Type 0
 Unread left NotWord = wordsIn left ≡ None
-Unread left Memory = Unit {0}
+Unread left Memory = wordsIn left ≡ None → ⊥
 
 -- each word behind a space
 abbrev pub spaced : List ℕ → List ℕ

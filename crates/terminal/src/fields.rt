@@ -5,9 +5,9 @@ ghost use mathlib.Core.List.{[], _∷_};
 ghost use Prim.Native.Nat.{ℕ, _-_, _<_, _≤_};
 ghost use lib.ListN.{length, getD, take, drop};
 ghost use Rattle.std.specs.Options.{Cases as BySome};
-ghost use Rattle.terminal.specs.Fields.{isSpace, fields, rest};
+ghost use Rattle.terminal.specs.Fields.{isSpace, fields, Plain, rest};
 
-#[derive(Drop)]
+#[derive(Clone, Copy)]
 pub struct Fields<'a> {
     line: &'a [u8],
     at: usize,
@@ -24,6 +24,7 @@ impl<'a> Fields<'a> {
     pub fn next_field(&mut self) -> Option<&'a [u8]>
         ensures cases { λ r. ⌜ BySome r (fields (rest (now (self .entry))) ≡ []) (λ field. fields (rest (now (self .entry))) ≡ now field ∷ fields (rest (now (self .exit)))) ⌝ }
         ensures left { λ r. ⌜ BySome r (fields (rest (now (self .exit))) ≡ []) (λ _. length (rest (now (self .exit))) < length (rest (now (self .entry)))) ⌝ }
+        ensures plain { λ r. ⌜ BySome r (Unit {0}) (λ field. Plain (now field)) ⌝ }
     {
         let line = self.line;
         let start = skip_spaces(line, self.at);

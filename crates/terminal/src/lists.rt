@@ -4,6 +4,7 @@ ghost use mathlib.Core.List.{[], _∷_};
 ghost use Prim.Native.Nat.{ℕ};
 ghost use Rattle.std.specs.declared.option.Option.the-variants.{Some};
 ghost use Rattle.std.specs.Of.Vec.{vec-items};
+ghost use Rattle.std.specs.Options.{isSome};
 ghost use Rattle.std.specs.Results.{Cases};
 ghost use Rattle.std.specs.Vec.{made};
 ghost use Rattle.terminal.specs.declared.lists.FieldFault.the-variants.{Memory};
@@ -32,19 +33,36 @@ pub impl<T: Drop> From<Refused<T>> for FieldFault as FieldFromRefused {
     }
 }
 
-// Reads all the fields that are left.
+// Reads all the fields that are left. That each is a word is checked before memory is taken, so that a field that is
+// none is always told.
 pub fn parse_words(heap: Global, fields: &mut Fields<'_>) -> Result<Vec<u32>, FieldFault>
     ensures cases { λ r. ⌜ Cases r (λ words. wordsIn (fieldsOf (rest (now (fields .entry)))) ≡ Some (vec-items words)) (Unread (fieldsOf (rest (now (fields .entry))))) ⌝ }
     ensures all { λ r. ⌜ made r (λ _. fieldsOf (rest (now (fields .exit))) ≡ []) ⌝ }
 {
+    if !all_words(*fields) {
+        return Err(FieldFault::NotWord);
+    }
     let mut words = Vec::new(heap);
     while let Some(field) = fields.next_field() {
         let Some(word) = parse_word(field) else {
-            return Err(FieldFault::NotWord);
+            unreachable()
         };
         words.push(word)?;
     }
     Ok(words)
+}
+
+// Whether each field that is left is a word.
+fn all_words(fields: Fields<'_>) -> bool
+    ensures { λ r. ⌜ r ≡ isSome (wordsIn (fieldsOf (rest (fields .entry)))) ⌝ }
+{
+    let mut left = fields;
+    while let Some(field) = left.next_field() {
+        if parse_word(field).is_none() {
+            return false;
+        }
+    }
+    true
 }
 
 // Writes each word behind a space. Without memory, leaves `out` as it was.

@@ -1,6 +1,7 @@
 // A word as a field: eight hexadecimal digits.
 ghost use mathlib.Core.Path.{_≡_};
 ghost use Prim.Native.Nat.{ℕ, _<_};
+ghost use Rattle.std.specs.declared.option.Option.the-variants.{Some};
 ghost use Rattle.std.specs.Of.Vec.{vec-items};
 ghost use Rattle.terminal.specs.Numbers.{wordIn, hexDigit, hexDigits, Appends};
 use super::numeral::parse_numeral;
@@ -20,7 +21,8 @@ pub fn parse_word(field: &[u8]) -> Option<u32>
 
 // Writes upper case. Without memory, leaves `out` as it was.
 pub fn write_word(out: &mut Vec<u8>, word: u32) -> Result<(), AllocError>
-    ensures { λ r. ⌜ Appends r (vec-items (now (out .entry))) (hexDigits word) (vec-items (now (out .exit))) ⌝ }
+    ensures after { λ r. ⌜ Appends r (vec-items (now (out .entry))) (hexDigits word) (vec-items (now (out .exit))) ⌝ }
+    ensures back { λ _. ⌜ wordIn (hexDigits word) ≡ Some word ⌝ }
 {
     out.extend_from_slice(&hex_digits(word))
 }
