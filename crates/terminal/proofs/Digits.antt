@@ -8,7 +8,7 @@ use native.Mathlib.Nat.{le-refl}
 use native.Mathlib.Omega.{arith}
 use borrow.Author.Needs.{needs}
 use lib.Dec.{eqb, ltb}
-use lib.ListN.{length, getD, set, take, drop}
+use lib.ListN.{length, getD, set, drop}
 use Rattle.std.specs.declared.option.Option.{Option}
 use Rattle.std.specs.declared.option.Option.the-variants.{Some, None}
 use Rattle.std.specs.Reads.{value, valueAfter, Digits}
@@ -18,9 +18,9 @@ use Rattle.std.specs.shelf.Digits.{Under, number, numberAfter}
 use Rattle.std.proofs.shelf.Bits.{mul-le}
 use Rattle.std.proofs.shelf.Decimals.{decimal-reads, decimal-digit, decimal-step, decimal-some, first-decimal, length-decimal-le}
 use Rattle.std.proofs.shelf.Digits.{value-lt}
-use Rattle.std.proofs.shelf.Lists.{drop-more, drop-set, drop-all, length-set, length-drop, length-append, append-assoc}
+use Rattle.std.proofs.shelf.Lists.{drop-more, drop-set, drop-all, length-drop, length-append, append-assoc}
 use Rattle.std.proofs.shelf.Tests.{lt-ltb, le-ltb, ltb-true, and-parts, and-right, and-from, eq-eqb, ne-eqb, cases-lt, cond-true, cond-false}
-use Rattle.terminal.specs.Numbers.{allDigits, numeralIn, decimalIn, wordIn, hexDigit, hexDigits, WritesDecimal}
+use Rattle.terminal.specs.Numbers.{allDigits, numeralIn, wordIn, hexDigit, hexDigits, WritesDecimal}
 
 -- the number that digits write behind those that wrote n, where it fits 32 bits
 abbrev pub numeralAfter : ℕ → ℕ → List ℕ → Option ℕ
@@ -84,9 +84,6 @@ word-fits field len =
     let eight : eqb (length field) 8 ≡ true = eq-eqb _ _ len in
     let small : allDigits 16 field ≡ true → ltb (value 16 field) 4294967296 ≡ true = λ e. lt-ltb _ _ (rw len at (value-lt 16 field (digits-from-all 16 field e))) in
     rw eight (cond-first (allDigits 16 field) _ _ small)
-
-pub no-word : (field : List ℕ) → (length field ≡ 8 → ⊥) → None ≡ wordIn field
-no-word field len = let other : eqb (length field) 8 ≡ false = ne-eqb _ _ len in rw other
 
 digitValue-hexDigit : (d : ℕ) → d < 16 → digitValue (hexDigit d) ≡ d
 digitValue-hexDigit d h = search needs

@@ -1,11 +1,10 @@
 -- Words that are read one by one, and words that are written behind spaces read back.
 use mathlib.Core.Path.{_≡_, refl, sym, ap, _∙_}
-use mathlib.Core.Bool.{Bool, true, false, cond, _||_}
+use mathlib.Core.Bool.{true, false}
 use mathlib.Core.List.{List, [], _∷_, _++_, map, append-assoc, append-nil}
 use Prim.Native.Nat.{ℕ, suc, _+_, _≤_, _<_, _^_}
 use native.Mathlib.Omega.{arith}
 use borrow.Author.Needs.{needs}
-use lib.Dec.{eqb, ltb}
 use lib.ListN.{length, getD, take}
 use Rattle.std.specs.declared.option.Option.{Option}
 use Rattle.std.specs.declared.option.Option.the-variants.{Some, None}
@@ -13,7 +12,7 @@ use Rattle.std.specs.Options.{isSome}
 use Rattle.std.specs.shelf.Lists.{joined}
 use Rattle.std.proofs.shelf.Lists.{joined-more, take-more}
 use Rattle.std.proofs.shelf.Tests.{false≢true, or-from, ne-eqb}
-use Rattle.terminal.specs.Fields.{isSpace, anySpace, whole, fieldsAfter, fields}
+use Rattle.terminal.specs.Fields.{isSpace, anySpace, whole, fieldsAfter}
 use Rattle.terminal.specs.Lists.{before, wordsIn, spaced, ReadsBack}
 use Rattle.terminal.specs.Numbers.{wordIn, hexDigit, hexDigits}
 use Rattle.terminal.proofs.Digits.{nibbles, wordIn-hexDigits}
@@ -28,15 +27,9 @@ pub behind-more : (words : List ℕ) (word : ℕ) (more : Option (List ℕ)) →
 behind-more words word None = refl
 behind-more words word (Some more) = ap Some (append-assoc words (word ∷ []) more)
 
--- one field more is a word, or is none
+-- one field more that is a word
 pub words-more : (words : List ℕ) (word : ℕ) (field : List ℕ) (left : List (List ℕ)) → Some word ≡ wordIn field → behind (words ++ word ∷ []) (wordsIn left) ≡ behind words (wordsIn (field ∷ left))
 words-more words word field left e = behind-more words word (wordsIn left) ∙ ap (λ o. behind words (before o (wordsIn left))) e
-
-pub words-other : (words field : List ℕ) (left : List (List ℕ)) → None ≡ wordIn field → behind words (wordsIn (field ∷ left)) ≡ None
-words-other words field left e = ap (λ o. behind words (before o (wordsIn left))) (sym e)
-
-pub words-all : (words : List ℕ) → behind words (wordsIn []) ≡ Some words
-words-all words = ap Some (append-nil words)
 
 some-before : (word : Option ℕ) (more : Option (List ℕ)) → isSome word ≡ true → isSome more ≡ isSome (before word more)
 some-before (Some word) (Some more) e = refl

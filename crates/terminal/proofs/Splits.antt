@@ -1,15 +1,14 @@
 -- How the fields of a line go on, byte by byte.
 use mathlib.Core.Path.{_≡_, refl, sym, ap, subst, _∙_}
 use mathlib.Core.Logic.{_⊎_, inl, inr, ⊎-elim}
-use mathlib.Core.Bool.{true, false, cond, _||_}
-use mathlib.Core.List.{List, [], _∷_, _++_, map, append-assoc, append-nil}
+use mathlib.Core.Bool.{true, false}
+use mathlib.Core.List.{List, [], _∷_, _++_, append-assoc, append-nil}
 use Prim.Native.Nat.{ℕ, _+_, _-_, _≤_, _<_}
 use native.Mathlib.Nat.{add-zero}
 use native.Mathlib.Omega.{arith}
-use lib.Dec.{eqb}
 use lib.ListN.{length, getD, take, drop}
 use Rattle.std.specs.shelf.Lists.{All}
-use Rattle.std.proofs.shelf.Lists.{drop-more, drop-all, take-more, getD-drop, length-drop, length-take}
+use Rattle.std.proofs.shelf.Lists.{drop-more, take-more, getD-drop, length-drop, length-take}
 use Rattle.std.proofs.shelf.Tests.{or-parts, or-from, cond-both}
 use Rattle.terminal.specs.Fields.{isSpace, anySpace, whole, fieldsAfter, fields, Plain}
 

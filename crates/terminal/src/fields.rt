@@ -1,8 +1,8 @@
 // Reads a line field by field. A line is bytes, since what comes in may be no text.
 ghost use mathlib.Core.Path.{_≡_};
-ghost use mathlib.Core.Bool.{Bool, false};
+ghost use mathlib.Core.Bool.{false};
 ghost use mathlib.Core.List.{[], _∷_};
-ghost use Prim.Native.Nat.{ℕ, _-_, _<_, _≤_};
+ghost use Prim.Native.Nat.{_-_, _<_, _≤_};
 ghost use lib.ListN.{length, getD, take, drop};
 ghost use Rattle.std.specs.Options.{Cases as BySome};
 ghost use Rattle.terminal.specs.Fields.{isSpace, fields, Plain, rest};

@@ -1,6 +1,6 @@
 // Digits of any base, read as a number of 32 bits.
 ghost use mathlib.Core.Path.{_≡_};
-ghost use Prim.Native.Nat.{ℕ, _≤_};
+ghost use Prim.Native.Nat.{_≤_};
 ghost use Rattle.terminal.specs.Numbers.{numeralIn};
 
 pub(super) fn parse_numeral(field: &[u8], base: u32) -> Option<u32>

@@ -1,6 +1,6 @@
 // A word as a field: eight hexadecimal digits.
 ghost use mathlib.Core.Path.{_≡_};
-ghost use Prim.Native.Nat.{ℕ, _<_};
+ghost use Prim.Native.Nat.{_<_};
 ghost use Rattle.std.specs.declared.option.Option.the-variants.{Some};
 ghost use Rattle.std.specs.Of.Vec.{vec-items};
 ghost use Rattle.terminal.specs.Numbers.{wordIn, hexDigit, hexDigits, Appends};

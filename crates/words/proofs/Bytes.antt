@@ -1,10 +1,9 @@
 -- A word's four bytes determine the word, and a file's bytes its words.
 use mathlib.Core.Path.{_≡_, refl, sym, ap, _∙_}
-use mathlib.Core.List.{List, [], _∷_, _++_, append-assoc, append-nil}
+use mathlib.Core.List.{List, [], _∷_, _++_, append-assoc}
 use Prim.Native.Nat.{ℕ, _+_, _-_, _*_, _/_, _%_, _^_, _<_, _≤_}
 use native.Mathlib.Omega.{arith}
 use lib.ListN.{length, getD, take, drop}
-use Rattle.std.specs.shelf.Lists.{joined}
 use Rattle.std.proofs.shelf.Lists.{joined-more, take-more, take-rest}
 use Rattle.words.specs.Files.{wordBytes, bytesOf}
 

@@ -1,8 +1,7 @@
-use mathlib.Core.Path.{_≡_, ap, _∙_}
-use mathlib.Core.List.{[], append-nil}
-use Prim.Native.Nat.{_≤_, _<_, _^_}
+use mathlib.Core.Path.{ap, _∙_}
+use mathlib.Core.List.{append-nil}
+use Prim.Native.Nat.{_≤_}
 use native.Mathlib.Omega.{arith}
-use lib.ListN.{length}
 use mathlib.Core.List.{_++_}
 use Rattle.std.specs.Written.{decimal}
 use Rattle.std.proofs.shelf.Lists.{drop-all}

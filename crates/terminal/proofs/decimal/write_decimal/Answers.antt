@@ -13,7 +13,6 @@ use Rattle.terminal.proofs.decimal.write_decimal.Needs as need
 
 pub returns : need.returns
 returns c =
-    let start = c .fill-digits-start .result in
     let part : take (20 - c .fill-digits-start .result) (drop (c .fill-digits-start .result) (c .fill-digits-start .last .digits)) ≡ decimal (c .args .number) =
     take-all (20 - c .fill-digits-start .result) (drop (c .fill-digits-start .result) (c .fill-digits-start .last .digits)) (simp length-drop (omega arith)) ∙ c .fill-digits-start .ensures .digits
     in

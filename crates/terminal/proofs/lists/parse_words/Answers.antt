@@ -1,8 +1,8 @@
-use mathlib.Core.Path.{_≡_, sym, ap, _∙_}
+use mathlib.Core.Path.{sym, ap, _∙_}
 use Rattle.std.specs.Of.Vec.{vec-items}
 use Rattle.terminal.specs.Fields.{fields, rest}
 use Rattle.terminal.specs.Lists.{wordsIn}
-use Rattle.terminal.proofs.Rows.{behind, words-more, words-other, words-all}
+use Rattle.terminal.proofs.Rows.{behind, words-more}
 use Rattle.terminal.proofs.lists.parse_words.Needs as need
 
 pub loop-field-again : need.loop-field-again

@@ -1,5 +1,5 @@
 use mathlib.Core.Path.{_∙_}
-use Rattle.terminal.proofs.Digits.{word-fits, no-word}
+use Rattle.terminal.proofs.Digits.{word-fits}
 use Rattle.terminal.proofs.word.parse_word.Needs as need
 
 pub returns : need.returns

@@ -1,7 +1,6 @@
 use Prim.Native.Nat.{_<_, _≤_}
 use mathlib.Core.Path.{_≡_, sym, _∙_}
-use mathlib.Core.List.{List, [], append-nil}
-use native.Mathlib.Omega.{arith}
+use mathlib.Core.List.{[], append-nil}
 use borrow.Author.Needs.{needs}
 use lib.ListN.{length, getD}
 use Rattle.std.specs.Of.Vec.{vec-items}
