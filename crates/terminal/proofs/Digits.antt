@@ -11,6 +11,8 @@ use lib.Dec.{eqb, ltb}
 use lib.ListN.{length, getD, set, drop}
 use Rattle.std.specs.declared.option.Option.{Option}
 use Rattle.std.specs.declared.option.Option.the-variants.{Some, None}
+use Rattle.std.specs.declared.result.Result.{Result}
+use Rattle.std.specs.Results.{isOk}
 use Rattle.std.specs.Reads.{value, valueAfter, Digits}
 use Rattle.std.specs.Text.{digitValue}
 use Rattle.std.specs.Written.{decimal}
@@ -20,7 +22,7 @@ use Rattle.std.proofs.shelf.Decimals.{decimal-reads, decimal-digit, decimal-ste
 use Rattle.std.proofs.shelf.Digits.{value-lt}
 use Rattle.std.proofs.shelf.Lists.{drop-more, drop-set, drop-all, length-drop, length-append, append-assoc}
 use Rattle.std.proofs.shelf.Tests.{lt-ltb, le-ltb, ltb-true, and-parts, and-right, and-from, eq-eqb, ne-eqb, cases-lt, cond-true, cond-false}
-use Rattle.terminal.specs.Numbers.{allDigits, numeralIn, wordIn, hexDigit, hexDigits, WritesDecimal}
+use Rattle.terminal.specs.Numbers.{allDigits, numeralIn, wordIn, hexDigit, hexDigits, WritesDecimal, Appends}
 
 -- the number that digits write behind those that wrote n, where it fits 32 bits
 abbrev pub numeralAfter : ℕ → ℕ → List ℕ → Option ℕ
@@ -156,3 +158,7 @@ digit-more left at ds large fits h within =
 pub digit-last : (left at : ℕ) (ds : List ℕ) → left < 10 → 1 ≤ at → at ≤ length ds → drop (at - 1) (set ds (at - 1) (48 + left)) ≡ decimal left ++ drop at ds
 digit-last left at ds small h within =
     put-before at (48 + left) ds h within ∙ sym (ap (λ b. b ++ drop at ds) (decimal-digit left small))
+
+-- what was written is a part of a buffer that holds the digits
+pub appends-part : {T E : Type 0} (r : Result T E) (before part bytes after : List ℕ) → after ≡ cond (isOk r) (before ++ part) before → part ≡ bytes → Appends r before bytes after
+appends-part r before part bytes after e same = e ∙ ap (λ b. cond (isOk r) (before ++ b) before) same

@@ -10,7 +10,7 @@ use Rattle.std.specs.declared.option.Option.{Option}
 use Rattle.std.specs.declared.option.Option.the-variants.{Some, None}
 use Rattle.std.specs.Options.{isSome}
 use Rattle.std.specs.shelf.Lists.{joined}
-use Rattle.std.proofs.shelf.Lists.{joined-more, take-more}
+use Rattle.std.proofs.shelf.Lists.{joined-more, take-at, take-more}
 use Rattle.std.proofs.shelf.Tests.{false≢true, or-from, ne-eqb}
 use Rattle.terminal.specs.Fields.{isSpace, anySpace, whole, fieldsAfter}
 use Rattle.terminal.specs.Lists.{before, wordsIn, spaced, ReadsBack}
@@ -28,8 +28,12 @@ behind-more words word None = refl
 behind-more words word (Some more) = ap Some (append-assoc words (word ∷ []) more)
 
 -- one field more that is a word
-pub words-more : (words : List ℕ) (word : ℕ) (field : List ℕ) (left : List (List ℕ)) → Some word ≡ wordIn field → behind (words ++ word ∷ []) (wordsIn left) ≡ behind words (wordsIn (field ∷ left))
-words-more words word field left e = behind-more words word (wordsIn left) ∙ ap (λ o. behind words (before o (wordsIn left))) e
+pub words-more : (words after : List ℕ) (word : ℕ) (field : List ℕ) (left fields : List (List ℕ)) → after ≡ words ++ word ∷ [] → Some word ≡ wordIn field → fields ≡ field ∷ left → behind after (wordsIn left) ≡ behind words (wordsIn fields)
+words-more words after word field left fields pushed is first =
+    ap (λ ws. behind ws (wordsIn left)) pushed
+    ∙ behind-more words word (wordsIn left)
+    ∙ ap (λ o. behind words (before o (wordsIn left))) is
+    ∙ ap (λ fs. behind words (wordsIn fs)) (sym first)
 
 some-before : (word : Option ℕ) (more : Option (List ℕ)) → isSome word ≡ true → isSome more ≡ isSome (before word more)
 some-before (Some word) (Some more) e = refl
@@ -74,3 +78,7 @@ reads-back words fits =
 pub spaced-more : (bytes words : List ℕ) (i : ℕ) → i < length words → (bytes ++ spaced (take i words)) ++ 32 ∷ hexDigits (getD words i 0) ≡ bytes ++ spaced (take (i + 1) words)
 spaced-more bytes words i h =
     joined-more (λ word. 32 ∷ hexDigits word) bytes (take i words) (getD words i 0) ∙ ap (λ ws. bytes ++ spaced ws) (sym (take-more words i 0 h))
+
+-- what stood before the words, once they are cut off again
+pub cut-off : (n : ℕ) (bytes more full after : List ℕ) → after ≡ take n full → full ≡ bytes ++ more → length bytes ≡ n → after ≡ bytes
+cut-off n bytes more full after cut is len = cut ∙ ap (λ b. take n b) is ∙ take-at bytes more n len

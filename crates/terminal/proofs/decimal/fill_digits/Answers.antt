@@ -1,32 +1,33 @@
-use mathlib.Core.Path.{ap, _∙_}
-use mathlib.Core.List.{append-nil}
-use Prim.Native.Nat.{_≤_}
+use mathlib.Core.Path.{_≡_, ap, _∙_}
+use mathlib.Core.List.{_++_, append-nil}
+use Prim.Native.Nat.{_+_, _-_, _/_, _%_, _≤_}
 use native.Mathlib.Omega.{arith}
-use mathlib.Core.List.{_++_}
+use lib.ListN.{length, set, drop}
 use Rattle.std.specs.Written.{decimal}
-use Rattle.std.proofs.shelf.Lists.{drop-all}
+use Rattle.std.proofs.shelf.Lists.{drop-all, length-set}
 use Rattle.terminal.proofs.Digits.{room, digit-more, digit-last}
 use Rattle.terminal.proofs.decimal.fill_digits.Needs as need
 
 pub loop-left-holds : need.loop-left-holds
 loop-left-holds c =
-    (omega arith, omega arith, ap (λ b. decimal (c .args .number) ++ b) (drop-all 20 (c .args .digits .now) (omega arith)) ∙ append-nil _)
-
-pub sub-at : need.sub-at
-sub-at c = room (c .args .number) (c .loop-left .left) (c .loop-left .at) (c .loop-left .digits) (omega arith) (c .loop-left .inv .1) (omega arith) (c .loop-left .inv .0) (c .loop-left .inv .2)
-
-pub sub-at-2 : need.sub-at-2
-sub-at-2 c = room (c .args .number) (c .loop-left .left) (c .loop-left .at) (c .loop-left .digits) (omega arith) (c .loop-left .inv .1) (omega arith) (c .loop-left .inv .0) (c .loop-left .inv .2)
+    (omega arith, omega arith, omega arith, ap (λ b. decimal (c .args .number) ++ b) (drop-all 20 (c .args .digits .now) (omega arith)) ∙ append-nil _)
 
 pub loop-left-again : need.loop-left-again
 loop-left-again c =
-    let some : 1 ≤ c .loop-left .at = room (c .args .number) (c .loop-left .left) (c .loop-left .at) (c .loop-left .digits) (omega arith) (c .loop-left .inv .1) (omega arith) (c .loop-left .inv .0) (c .loop-left .inv .2) in
-    (omega arith, omega arith, digit-more (c .loop-left .left) (c .loop-left .at) (c .loop-left .digits) (c .loop-left-test .taken) (omega arith) some (omega arith) ∙ c .loop-left .inv .2)
+    let at = c .loop-left .at - 1 in
+    let left = c .loop-left .left / 10 in
+    let digits = set (c .loop-left .digits) (c .loop-left .at - 1) (48 + c .loop-left .left % 10) in
+    let stand : decimal left ++ drop at digits ≡ decimal (c .args .number) =
+    digit-more (c .loop-left .left) (c .loop-left .at) (c .loop-left .digits) (c .loop-left-test .taken) (omega arith) (c .loop-left .inv .0) (omega arith) ∙ c .loop-left .inv .3
+    in
+    let within : at ≤ 20 = omega arith in
+    let less : left ≤ c .args .number = omega arith in
+    let len : length digits ≡ 20 = simp length-set (omega arith) in
+    (room (c .args .number) left at digits (omega arith) less len within stand, within, less, stand)
 
 pub returns : need.returns
 returns c =
-    let some : 1 ≤ c .loop-left .at = room (c .args .number) (c .loop-left .left) (c .loop-left .at) (c .loop-left .digits) (omega arith) (c .loop-left .inv .1) (omega arith) (c .loop-left .inv .0) (c .loop-left .inv .2) in
     record {
       within = omega arith;
-      digits = digit-last (c .loop-left .left) (c .loop-left .at) (c .loop-left .digits) (c .loop-left-test .left) some (omega arith) ∙ c .loop-left .inv .2;
+      digits = digit-last (c .loop-left .left) (c .loop-left .at) (c .loop-left .digits) (c .loop-left-test .left) (c .loop-left .inv .0) (omega arith) ∙ c .loop-left .inv .3;
     }

@@ -3,10 +3,10 @@ use mathlib.Core.List.{_∷_, _++_}
 use native.Mathlib.Omega.{arith}
 use lib.ListN.{length, getD, take}
 use Rattle.std.specs.Of.Vec.{vec-items}
-use Rattle.std.proofs.shelf.Lists.{take-all, take-at}
+use Rattle.std.proofs.shelf.Lists.{take-all}
 use Rattle.terminal.specs.Lists.{spaced}
 use Rattle.terminal.specs.Numbers.{hexDigits}
-use Rattle.terminal.proofs.Rows.{reads-back, spaced-more}
+use Rattle.terminal.proofs.Rows.{reads-back, spaced-more, cut-off}
 use Rattle.terminal.proofs.lists.write_words.Needs as need
 
 pub loop-word-again : need.loop-word-again
@@ -19,7 +19,7 @@ pub returns-in-Err : need.returns-in-Err
 returns-in-Err c =
     let len : length (vec-items (c .args .out .now)) ≡ c .len-start .result = omega (arith, c .args .out .now .ok .0) in
     record {
-      after = c .truncate .ensures .items ∙ ap (λ b. take (c .len-start .result) b) (c .in-Err .ensures tt ∙ c .loop-word .inv) ∙ take-at (vec-items (c .args .out .now)) _ (c .len-start .result) len;
+      after = cut-off (c .len-start .result) (vec-items (c .args .out .now)) (spaced (take (c .loop-word .word-index) (c .args .words .now))) (vec-items (c .write-spaced .last .out)) (vec-items (c .truncate .last .self)) (c .truncate .ensures .items) (c .in-Err .ensures tt ∙ c .loop-word .inv) len;
       back = reads-back (c .args .words .now) (λ i. omega (arith, c .typed .words i));
     }
 
