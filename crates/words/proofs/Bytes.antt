@@ -13,7 +13,6 @@ wordBytes-byte w h = let e : w / 16777216 % 256 ≡ w / 16777216 = omega arith i
 
 pub wordBytes-joined : (a b c d : ℕ) → b < 256 → c < 256 → d < 256 → wordBytes (a * 2 ^ 24 + b * 2 ^ 16 + c * 2 ^ 8 + d) ≡ a ∷ b ∷ c ∷ d ∷ []
 wordBytes-joined a b c d hb hc hd =
-    let w : ℕ = a * 16777216 + b * 65536 + c * 256 + d in
     let e0 : (a * 16777216 + b * 65536 + c * 256 + d) / 16777216 ≡ a = omega arith in
     let e1 : (a * 16777216 + b * 65536 + c * 256 + d) / 65536 % 256 ≡ b = omega arith in
     let e2 : (a * 16777216 + b * 65536 + c * 256 + d) / 256 % 256 ≡ c = omega arith in
@@ -57,7 +56,6 @@ decode-more ws (a ∷ []) bytes h b1 b2 b3 e m = absurd (omega arith)
 decode-more ws (a ∷ b ∷ []) bytes h b1 b2 b3 e m = absurd (omega arith)
 decode-more ws (a ∷ b ∷ c ∷ []) bytes h b1 b2 b3 e m = absurd (omega arith)
 decode-more ws (a ∷ b ∷ c ∷ d ∷ rest) bytes h b1 b2 b3 e m =
-    let w : ℕ = a * 16777216 + b * 65536 + c * 256 + d in
     let whole = take-rest (a ∷ b ∷ c ∷ d ∷ rest) 4 in
     let len : length rest % 4 ≡ 0 = omega arith in
     rw whole (
