@@ -1,8 +1,13 @@
 // Words of 32 bits, the serials in them, and how a call is refused. Knows nothing of catalogues.
+mod files;
 mod refusal;
 mod serial;
 mod word;
 
+pub use files::DecodeFault;
+pub use files::DecodeFromRefused;
+pub use files::decode;
+pub use files::encode;
 pub use refusal::AnswerFault;
 pub use refusal::AnswerFaultTold;
 pub use refusal::AnswerFromList;
