@@ -1,2 +1,4 @@
 pub mod Sorts
 pub mod Bits
+pub mod Bounds
+pub mod Packets
