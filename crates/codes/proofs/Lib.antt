@@ -11,3 +11,5 @@ pub mod Splice
 pub mod Runs
 pub mod Turn
 pub mod Walk
+pub mod Pairs
+pub mod Scan

@@ -8,8 +8,9 @@ use native.Mathlib.Omega.{arith}
 use denote.Struct.Props.{props}
 use lib.Dec.{leb}
 use lib.ListN.{length, getD, take, drop}
+use Rattle.std.specs.Orderings.{Decides}
 use Rattle.std.proofs.shelf.Lists.{ext-getD, getD-take}
-use Rattle.std.proofs.shelf.Tests.{cases-lt, le-leb, and-from, and-left}
+use Rattle.std.proofs.shelf.Tests.{cases-lt, both-ways, le-leb, and-from, and-left}
 use Rattle.codes.specs.declared.packets.Packets.{Packets}
 use Rattle.codes.specs.declared.packets.bounds.Bounds.{Bounds}
 use Rattle.codes.specs.declared.packets.row.PacketRow.{PacketRow}
@@ -71,3 +72,11 @@ packets-lawful = record {
   back = λ v p _. ap (λ t. t && packetsHave v p) (row-kept v);
   broken = λ row e p _. and-left (rowKeeps row) (inside (take (row .len) (row .bounds)) p) e;
 }
+
+-- what a test of two packet codes says of both questions
+pub equal-answers : (a b : Packets) → a ≡ b → Decides true (a ≡ b) × Decides true (Agree 512 (packetsHave a) (packetsHave b))
+equal-answers a b e = ((λ _. e, λ _. refl), (λ _. λ p _. ap (λ (v : Packets). packetsHave v p) e, λ _. refl))
+
+pub apart-answers : (a b : Packets) → (a ≡ b → ⊥) → Decides false (a ≡ b) × Decides false (Agree 512 (packetsHave a) (packetsHave b))
+apart-answers a b ne =
+    ((λ t. absurd (both-ways false refl t), λ e. absurd (ne e)), (λ t. absurd (both-ways false refl t), λ agree. absurd (ne (same-packets a b agree))))

@@ -1,9 +1,11 @@
 -- A row of bounds l0 u0 l1 u1 .. is the packets ⟨l0, u0⟩ ⟨l1, u1⟩ ..: l is the first place of an unbroken run, u the first place after it.
 use mathlib.Core.Bool.{Bool, true, false, cond, _&&_, _||_}
 use mathlib.Core.List.{List, [], _∷_}
-use Prim.Native.Nat.{ℕ, suc, _%_}
+use Prim.Native.Nat.{ℕ, zero, suc, _%_}
 use lib.Dec.{leb, ltb, eqb}
 use lib.ListN.{length}
+use Rattle.std.specs.declared.option.Option.{Option}
+use Rattle.std.specs.declared.option.Option.the-variants.{Some, None}
 
 -- the bounds rise strictly, from low on and up to w
 abbrev pub rises : ℕ → ℕ → List ℕ → Bool
@@ -19,6 +21,13 @@ abbrev pub inside : List ℕ → ℕ → Bool
 inside [] p = false
 inside (l ∷ []) p = false
 inside (l ∷ u ∷ bs) p = (leb l p && ltb p u) || inside bs p
+
+-- the packet at an index, from the left
+abbrev pub packetAt : List ℕ → ℕ → Option (ℕ × ℕ)
+packetAt [] i = None
+packetAt (l ∷ []) i = None
+packetAt (l ∷ u ∷ bs) zero = Some (l, u)
+packetAt (l ∷ u ∷ bs) (suc i) = packetAt bs i
 
 -- how many bounds lie below n, in a rising row
 abbrev pub countBelow : ℕ → List ℕ → ℕ

@@ -1,9 +1,14 @@
 // Values that mean sets of places. Knows nothing of kinds.
+mod between;
 mod bits;
 mod packets;
 mod truth;
 mod yes_no;
 
+pub use between::bits_again;
+pub use between::bits_of;
+pub use between::packets_again;
+pub use between::packets_of;
 pub use bits::Bits;
 pub use bits::BitsCode;
 pub use bits::BitsTruth;

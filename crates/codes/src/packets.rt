@@ -10,6 +10,7 @@ mod fill;
 mod row;
 mod rule;
 mod runs;
+mod shown;
 
 use bounds::Bounds;
 pub use code::PacketsCode;
