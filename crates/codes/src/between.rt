@@ -3,6 +3,7 @@ ghost use mathlib.Core.Path.{_≡_};
 ghost use mathlib.Core.Bool.{true, false};
 ghost use Prim.Native.Nat.{ℕ, _<_, _≤_};
 ghost use Rattle.codes.specs.Between.{Twins};
+use crate::PLACES;
 use crate::bits::Bits;
 use crate::bits::BitsCode;
 use crate::bits::BitsTruth;
@@ -11,8 +12,6 @@ use crate::packets::PacketsCode;
 use crate::packets::PacketsTruth;
 use crate::truth::Code;
 use crate::truth::Truth;
-
-const PLACES: usize = 512;
 
 // The least place from this one up, or the width where there is none.
 fn next_or_end<C: Code>(code: &C, from: usize) -> usize

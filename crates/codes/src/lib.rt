@@ -19,3 +19,6 @@ pub use packets::PacketsTruth;
 pub use truth::Code;
 pub use truth::Truth;
 pub use yes_no::YesNo;
+
+// The width of bits and of packets.
+const PLACES: usize = 512;

@@ -1,11 +1,10 @@
 // Bits as a sort of code: word by word, and one word for one place.
 ghost use Rattle.codes.specs.Bits.{bitsSort};
 use super::Bits;
+use crate::PLACES;
 use crate::truth::Code;
 use crate::truth::Truth;
 use words::CodeFault;
-
-const PLACES: usize = 512;
 
 const WORDS: usize = 8;
 

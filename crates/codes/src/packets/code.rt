@@ -3,11 +3,10 @@ ghost use Rattle.codes.specs.Packets.{packetsSort};
 use super::PacketRow;
 use super::Packets;
 use super::bounds::Bounds;
+use crate::PLACES;
 use crate::truth::Code;
 use crate::truth::Truth;
 use words::CodeFault;
-
-const PLACES: usize = 512;
 
 pub impl Truth for Packets as PacketsTruth {
     type Row = PacketRow;

@@ -5,8 +5,7 @@ ghost use lib.ListN.{take, drop};
 ghost use Rattle.codes.specs.Bounds.{rises};
 ghost use Rattle.codes.specs.Packets.{zeros, rowKeeps};
 use super::row::PacketRow;
-
-const PLACES: usize = 512;
+use crate::PLACES;
 
 impl PacketRow {
     fn rises(&self) -> bool

@@ -7,8 +7,7 @@ ghost use Rattle.codes.specs.Packets.{boundsOf, packetsHave};
 ghost use Rattle.codes.specs.Sorts.{Agree};
 use super::Packets;
 use super::bounds::Bounds;
-
-const PLACES: usize = 512;
+use crate::PLACES;
 
 impl Packets {
     // How many bounds lie below n, found by halving.
