@@ -1,9 +1,9 @@
 -- Each set of places has one packet code, and each packet code one row.
 use mathlib.Core.Path.{_≡_, refl, sym, ap, _∙_}
-use mathlib.Core.Bool.{Bool, true, false, _&&_}
+use mathlib.Core.Bool.{true, false, _&&_}
 use mathlib.Core.HLevel.{isProp→PathP}
 use mathlib.Core.Logic.{⊎-elim}
-use Prim.Native.Nat.{ℕ, _%_, _≤_, _<_}
+use Prim.Native.Nat.{ℕ, _≤_, _<_}
 use native.Mathlib.Omega.{arith}
 use denote.Struct.Props.{props}
 use lib.Dec.{leb}
@@ -13,7 +13,6 @@ use Rattle.std.proofs.shelf.Lists.{ext-getD, getD-take}
 use Rattle.std.proofs.shelf.Tests.{cases-lt, both-ways, le-leb, and-from, and-left}
 use Rattle.codes.specs.declared.packets.Packets.{Packets}
 use Rattle.codes.specs.declared.packets.bounds.Bounds.{Bounds}
-use Rattle.codes.specs.declared.packets.row.PacketRow.{PacketRow}
 use Rattle.codes.specs.Bounds.{keepsRule, inside}
 use Rattle.codes.specs.Packets.{held, boundsOf, packetsHave, zeros, rowKeeps, packetsSort}
 use Rattle.codes.specs.Sorts.{Agree, Lawful}

@@ -1,14 +1,14 @@
 -- A place lies in a packet exactly where the number of bounds that are not above it is odd.
 use mathlib.Core.Path.{_≡_, refl, sym, ap, ap₂, _∙_, subst}
-use mathlib.Core.Bool.{Bool, true, false, not, cond, _&&_, _||_}
+use mathlib.Core.Bool.{Bool, true, false, not, cond}
 use mathlib.Core.List.{List, [], _∷_, _++_}
-use mathlib.Core.Logic.{_⊎_, inl, inr, ⊎-elim}
-use Prim.Native.Nat.{ℕ, zero, suc, _+_, _-_, _*_, _%_, _≤_, _<_}
+use mathlib.Core.Logic.{_⊎_, ⊎-elim}
+use Prim.Native.Nat.{ℕ, suc, _+_, _-_, _%_, _≤_, _<_}
 use native.Mathlib.Omega.{arith}
-use lib.Dec.{leb, ltb, eqb}
-use lib.ListN.{length, getD, take, drop}
+use lib.Dec.{leb, eqb}
+use lib.ListN.{length, take, drop}
 use Rattle.std.proofs.shelf.Lists.{length-take-le, take-append-drop}
-use Rattle.std.proofs.shelf.Tests.{le-leb, lt-leb, cases-lt, cases-order, both-ways}
+use Rattle.std.proofs.shelf.Tests.{cases-order, both-ways}
 use Rattle.std.proofs.shelf.Ways.{tells}
 use Rattle.codes.specs.Bounds.{inside, keepsRule, countBelow}
 use Rattle.codes.proofs.Rising.{Rises, Under, Cut, cut, rule-rises, rule-even}

@@ -1,5 +1,5 @@
 -- What a change of packets owes: room for its bounds, the rule, and its meaning.
-use mathlib.Core.Path.{_≡_, sym, ap, _∙_, subst}
+use mathlib.Core.Path.{_≡_, sym, subst}
 use mathlib.Core.Bool.{Bool, true, not, cond, _&&_, Bool·beq}
 use mathlib.Core.List.{List, [], _++_}
 use Prim.Native.Nat.{ℕ, _+_, _-_, _≤_, _<_}
@@ -19,7 +19,7 @@ use Rattle.codes.proofs.Turn.{turn-order, turn-room, turn-rule, turn-inside}
 cut-at : (s : Packets) (n k : ℕ) → k ≡ countBelow n (boundsOf s) → Cut 512 (boundsOf s) k n
 cut-at s n k e = subst (λ (m : ℕ). Cut 512 (boundsOf s) m n) (sym e) (cut 512 0 n (boundsOf s) (rising s))
 
-module _ (s : Packets) (start stop i j : ℕ) (v : Bool) (some : start < stop) (within : stop ≤ 512)
+module _ (s : Packets) (v : Bool) {start stop i j : ℕ} (some : start < stop) (within : stop ≤ 512)
     (at-i : i ≡ countBelow start (boundsOf s)) (at-j : j ≡ countBelow (stop + 1) (boundsOf s)) where
   abbrev xs : List ℕ
   xs = boundsOf s
@@ -52,7 +52,7 @@ module _ (s : Packets) (start stop i j : ℕ) (v : Bool) (some : start < stop) (
     run-inside =
         splice-inside 512 xs start stop i j v a b some within (s .rule) (cut-at s start i at-i) (cut-at s (stop + 1) j at-j) (differs (odd i) v) (differs (odd j) v) row filled
 
-module _ (s : Packets) (i j : ℕ) (at-i : i ≡ countBelow 1 (boundsOf s)) (at-j : j ≡ countBelow 512 (boundsOf s)) where
+module _ (s : Packets) {i j : ℕ} (at-i : i ≡ countBelow 1 (boundsOf s)) (at-j : j ≡ countBelow 512 (boundsOf s)) where
   abbrev ys : List ℕ
   ys = boundsOf s
 

@@ -1,16 +1,16 @@
 -- Setting or unsetting a run is one splice of the row of bounds.
-use mathlib.Core.Path.{_≡_, refl, sym, ap, ap₂, _∙_, subst}
-use mathlib.Core.Bool.{Bool, true, false, not, cond, _&&_, _||_, Bool·beq}
+use mathlib.Core.Path.{_≡_, refl, sym, ap, ap₂, _∙_}
+use mathlib.Core.Bool.{Bool, true, false, not, cond, _&&_, Bool·beq}
 use mathlib.Core.List.{List, [], _∷_, _++_}
 use Prim.Native.Nat.{ℕ, suc, _+_, _-_, _%_, _≤_, _<_}
 use native.Mathlib.Omega.{arith}
-use lib.Dec.{leb, ltb, eqb}
-use lib.ListN.{length, getD, take, drop}
+use lib.Dec.{leb, ltb}
+use lib.ListN.{length, take, drop}
 use Rattle.std.proofs.shelf.Lists.{append-assoc, length-append, length-take-le, length-drop, take-rest}
 use Rattle.std.proofs.shelf.Ways.{tells}
-use Rattle.codes.specs.Bounds.{inside, keepsRule, countBelow}
+use Rattle.codes.specs.Bounds.{inside, keepsRule}
 use Rattle.codes.proofs.Parity.{differ, odd, parity, parity-append, parity-parts, parity-front, parity-rest, inside-odd}
-use Rattle.codes.proofs.Rising.{Rises, Cut, cut, rises-append, rises-lower, rises-take, rule-rises, rule-even, rule-from, even-fits}
+use Rattle.codes.proofs.Rising.{Rises, Cut, rises-append, rises-lower, rises-take, rule-rises, rule-even, rule-from, even-fits}
 
 -- a bound that may be wanted
 abbrev pub only : Bool → ℕ → List ℕ

@@ -1,17 +1,17 @@
 -- The complement of a row of bounds: one at 0 and one at the width come or go.
-use mathlib.Core.Path.{_≡_, refl, sym, ap, ap₂, _∙_, subst}
-use mathlib.Core.Bool.{Bool, true, false, not, cond, _&&_}
+use mathlib.Core.Path.{_≡_, sym, ap, ap₂, _∙_, subst}
+use mathlib.Core.Bool.{Bool, true, false, not, _&&_}
 use mathlib.Core.List.{List, [], _∷_, _++_}
 use mathlib.Core.Logic.{⊎-elim}
 use Prim.Native.Nat.{ℕ, zero, suc, _+_, _-_, _%_, _≤_, _<_}
 use native.Mathlib.Omega.{arith}
 use lib.Dec.{leb, eqb}
-use lib.ListN.{length, getD, take, drop}
+use lib.ListN.{length, take, drop}
 use Rattle.std.proofs.shelf.Lists.{append-assoc, drop-drop, drop-take, length-append, length-drop, length-take-le, take-append-drop}
 use Rattle.std.proofs.shelf.Tests.{cases-lt}
 use Rattle.std.proofs.shelf.Ways.{tells}
 use Rattle.codes.specs.Bounds.{inside, keepsRule}
-use Rattle.codes.proofs.Parity.{differ, odd, parity, parity-append, parity-parts, parity-front, parity-rest, inside-odd}
+use Rattle.codes.proofs.Parity.{differ, parity, parity-append, parity-parts, parity-front, parity-rest, inside-odd}
 use Rattle.codes.proofs.Rising.{Rises, Under, Cut, cut-before, cut-after, rises-append, rises-next, rises-take, rises-top, rule-rises, rule-even, rule-from, even-fits}
 use Rattle.codes.proofs.Splice.{only, size, only-length, only-parity, rises-only}
 

@@ -1,7 +1,8 @@
 -- A row of bounds l0 u0 l1 u1 .. is the packets ⟨l0, u0⟩ ⟨l1, u1⟩ ..: l is the first place of an unbroken run, u the first place after it.
+use mathlib.Core.Path.{_≡_}
 use mathlib.Core.Bool.{Bool, true, false, cond, _&&_, _||_}
 use mathlib.Core.List.{List, [], _∷_}
-use Prim.Native.Nat.{ℕ, zero, suc, _%_}
+use Prim.Native.Nat.{ℕ, zero, suc, _%_, _≤_, _<_}
 use lib.Dec.{leb, ltb, eqb}
 use lib.ListN.{length}
 use Rattle.std.specs.declared.option.Option.{Option}
@@ -28,6 +29,10 @@ packetAt [] i = None
 packetAt (l ∷ []) i = None
 packetAt (l ∷ u ∷ bs) zero = Some (l, u)
 packetAt (l ∷ u ∷ bs) (suc i) = packetAt bs i
+
+-- some packet ⟨l, u⟩ has the place p
+abbrev pub SomePacketHas : List ℕ → ℕ → Type 0
+SomePacketHas bounds p = (i : ℕ) × (l : ℕ) × (u : ℕ) × (packetAt bounds i ≡ Some (l, u)) × (l ≤ p) × (p < u)
 
 -- how many bounds lie below n, in a rising row
 abbrev pub countBelow : ℕ → List ℕ → ℕ

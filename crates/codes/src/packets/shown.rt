@@ -1,9 +1,9 @@
 // Packets as pairs, and whether two packet codes are one.
 ghost use mathlib.Core.Path.{_≡_};
-ghost use Prim.Native.Nat.{_*_};
+ghost use Prim.Native.Nat.{ℕ, _*_};
 ghost use lib.ListN.{length};
 ghost use Rattle.std.specs.Orderings.{Decides};
-ghost use Rattle.codes.specs.Bounds.{packetAt};
+ghost use Rattle.codes.specs.Bounds.{packetAt, SomePacketHas};
 ghost use Rattle.codes.specs.Packets.{boundsOf, packetsHave};
 ghost use Rattle.codes.specs.Sorts.{Agree};
 use super::Packets;
@@ -16,9 +16,10 @@ impl Packets {
         self.row.len / 2
     }
 
-    // The first place of the packet at this index, and the first place after it.
+    // The first place of the packet at this index, and the first place after it. A place belongs where it lies in some packet.
     pub fn packet(&self, index: usize) -> Option<(usize, usize)>
-        ensures { λ r. ⌜ r ≡ packetAt (boundsOf (now (self .entry))) index ⌝ }
+        ensures value { λ r. ⌜ r ≡ packetAt (boundsOf (now (self .entry))) index ⌝ }
+        ensures belongs { λ _. ⌜ ((p : ℕ) → Decides (packetsHave (now (self .entry)) p) (SomePacketHas (boundsOf (now (self .entry))) p)) ⌝ }
     {
         if index >= self.row.len / 2 {
             return None;

@@ -1,4 +1,4 @@
-use mathlib.Core.Path.{ap, refl}
+use mathlib.Core.Path.{ap}
 use native.Mathlib.Omega.{arith}
 use lib.ListN.{getD}
 use Rattle.codes.specs.declared.packets.Packets.{Packets}
