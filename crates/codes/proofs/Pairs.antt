@@ -33,8 +33,8 @@ inside-some [] p e = absurd (both-ways false refl e)
 inside-some (l ∷ []) p e = absurd (both-ways false refl e)
 inside-some (l ∷ u ∷ xs) p e = ⊎-elim
     (λ (h : (leb l p && ltb p u) ≡ true).
-      let parts = and-parts (leb l p) (ltb p u) h in
-      (0, l, u, refl, leb-true l p (parts .0), ltb-true p u (parts .1)))
+    let parts = and-parts (leb l p) (ltb p u) h in
+    (0, l, u, refl, leb-true l p (parts .0), ltb-true p u (parts .1)))
     (λ (h : inside xs p ≡ true). let rest = inside-some xs p h in (suc (rest .0), rest .1, rest .2, rest .3, rest .4, rest .5))
     (or-cases (leb l p && ltb p u) (inside xs p) e)
 

@@ -10,9 +10,11 @@ use Rattle.codes.specs.declared.packets.bounds.Bounds.{Bounds}
 use Rattle.codes.specs.declared.packets.Packets.{Packets}
 use Rattle.codes.specs.declared.packets.row.PacketRow.{PacketRow}
 
+-- the bounds that a row holds, without the zeros past them
 abbrev pub held : Bounds → List ℕ
 held row = take (row .len) (row .at)
 
+-- the bounds of packets, in order
 abbrev pub boundsOf : Packets → List ℕ
 boundsOf v = held (v .row)
 
@@ -20,6 +22,7 @@ boundsOf v = held (v .row)
 abbrev pub packetsHave : Packets → ℕ → Bool
 packetsHave v = inside (boundsOf v)
 
+-- each number is 0
 abbrev pub zeros : List ℕ → Bool
 zeros [] = true
 zeros (n ∷ ns) = eqb n 0 && zeros ns
@@ -28,6 +31,7 @@ zeros (n ∷ ns) = eqb n 0 && zeros ns
 abbrev pub rowKeeps : PacketRow → Bool
 rowKeeps row = leb (row .len) 512 && (keepsRule 512 (take (row .len) (row .bounds)) && zeros (drop (row .len) (row .bounds)))
 
+-- packets as a sort of code: a row that breaks the rule is read as the empty set
 abbrev pub packetsSort : Sort Packets PacketRow
 packetsSort = record {
   width = 512;

@@ -17,7 +17,8 @@ pub returns : need.returns
 returns c =
     let v = c .args .self .now in
     let i = c .args .index in
-    record
-      { value = sym (packet-there (boundsOf v) i (omega (arith, held-length (v .row)))
-          ∙ ap₂ (λ (l u : ℕ). Some (l, u)) (bound-at v (2 * i) (omega arith)) (bound-at v (2 * i + 1) (omega arith)))
-      ; belongs = belongs (boundsOf v) }
+    record {
+      value = sym (packet-there (boundsOf v) i (omega (arith, held-length (v .row)))
+          ∙ ap₂ (λ (l u : ℕ). Some (l, u)) (bound-at v (2 * i) (omega arith)) (bound-at v (2 * i + 1) (omega arith)));
+      belongs = belongs (boundsOf v);
+    }

@@ -10,12 +10,13 @@ copy-requires c κs =
     (parts .0, (parts .1, omega arith))
 
 pub ghost-result : need.ghost-result
-ghost-result c =
-    ( turn-rule-at (c .args .self) (c .below-from .ensures) (c .below-to .ensures) (held (c .push-if-2 .last .self))
-        (c .empty-row .ensures .items) (c .push-if .ensures .items) (c .copy .ensures .items) (c .push-if-2 .ensures .items)
-    , tt )
+ghost-result c = (
+  turn-rule-at (c .args .self) (c .below-from .ensures) (c .below-to .ensures) (held (c .push-if-2 .last .self))
+      (c .empty-row .ensures .items) (c .push-if .ensures .items) (c .copy .ensures .items) (c .push-if-2 .ensures .items),
+  tt,
+)
 
 pub returns : need.returns
 returns c =
     turn-inside-at (c .args .self) (c .below-from .ensures) (c .below-to .ensures) (held (c .push-if-2 .last .self))
-      (c .empty-row .ensures .items) (c .push-if .ensures .items) (c .copy .ensures .items) (c .push-if-2 .ensures .items)
+    (c .empty-row .ensures .items) (c .push-if .ensures .items) (c .copy .ensures .items) (c .push-if-2 .ensures .items)

@@ -29,15 +29,16 @@ copy-requires-2 c κs =
     (parts .1, (omega arith, omega arith))
 
 pub ghost-result : need.ghost-result
-ghost-result c =
-    ( run-rule (c .args .self) (c .args .value) (c .if-start-stop .left) (omega arith) (c .below-before .ensures) (c .below-through .ensures) (held (c .copy-2 .last .self))
-        (c .empty-row .ensures .items) (c .copy .ensures .items) (c .push-if .ensures .items) (c .push-if-2 .ensures .items) (c .copy-2 .ensures .items)
-    , tt )
+ghost-result c = (
+  run-rule (c .args .self) (c .args .value) (c .if-start-stop .left) (omega arith) (c .below-before .ensures) (c .below-through .ensures) (held (c .copy-2 .last .self))
+      (c .empty-row .ensures .items) (c .copy .ensures .items) (c .push-if .ensures .items) (c .push-if-2 .ensures .items) (c .copy-2 .ensures .items),
+  tt,
+)
 
 pub returns : need.returns
 returns c =
     λ p h.
-      let to : ltb p (c .min-stop .result) ≡ ltb p (c .args .end) = let least = c .min-stop .ensures in grind (arith, tells) in
-      run-inside (c .args .self) (c .args .value) (c .if-start-stop .left) (omega arith) (c .below-before .ensures) (c .below-through .ensures) (held (c .copy-2 .last .self))
-        (c .empty-row .ensures .items) (c .copy .ensures .items) (c .push-if .ensures .items) (c .push-if-2 .ensures .items) (c .copy-2 .ensures .items) p
-      ∙ ap (λ (t : Bool). cond (leb (c .args .start) p && t) (c .args .value) (packetsHave (c .args .self) p)) to
+    let to : ltb p (c .min-stop .result) ≡ ltb p (c .args .end) = let least = c .min-stop .ensures in grind (arith, tells) in
+    run-inside (c .args .self) (c .args .value) (c .if-start-stop .left) (omega arith) (c .below-before .ensures) (c .below-through .ensures) (held (c .copy-2 .last .self))
+    (c .empty-row .ensures .items) (c .copy .ensures .items) (c .push-if .ensures .items) (c .push-if-2 .ensures .items) (c .copy-2 .ensures .items) p
+    ∙ ap (λ (t : Bool). cond (leb (c .args .start) p && t) (c .args .value) (packetsHave (c .args .self) p)) to
