@@ -1,9 +1,8 @@
 use mathlib.Core.Bool.{not}
 use Prim.Native.Nat.{_-_, _^_}
 use native.Mathlib.Omega.{arith}
-use lib.ListN.{length-set}
 use Rattle.codes.proofs.Digits.{digit-not}
-use Rattle.codes.proofs.WordRows.{fit-set, done-none, done-more, done-all}
+use Rattle.codes.proofs.WordRows.{done-none, done-more, done-all}
 use Rattle.codes.proofs.bits.code.BitsTruth.complement.Needs as need
 
 pub loop-i-holds : need.loop-i-holds
@@ -12,10 +11,6 @@ loop-i-holds c = done-none (λ n _. (2 ^ 64 - 1) - n) (c .args .self .now .words
 pub loop-i-again : need.loop-i-again
 loop-i-again c =
     done-more (λ n _. (2 ^ 64 - 1) - n) (c .args .self .now .words) (c .args .self .now .words) (c .loop-i .self .words) (c .loop-i .i) (omega arith) (c .loop-i .inv)
-
-pub ghost-self : need.ghost-self
-ghost-self c =
-    (simp length-set (c .loop-i .self .whole), (fit-set (c .loop-i .self .words) (c .loop-i .i) _ (omega arith) (omega arith) (c .loop-i .self .fits), tt))
 
 pub returns : need.returns
 returns c =

@@ -1,7 +1,8 @@
+use borrow.Author.Needs.{needs}
 use mathlib.Core.Bool.{_||_}
 use native.Mathlib.Omega.{arith}
 use lib.Bits.{bitOr, or-lt}
-use lib.ListN.{getD, length-set}
+use lib.ListN.{length-set}
 use Rattle.codes.proofs.Digits.{digit-or}
 use Rattle.codes.proofs.WordRows.{fit-set, done-none, done-more, done-all}
 use Rattle.codes.proofs.bits.code.BitsTruth.join.Needs as need
@@ -15,10 +16,7 @@ loop-i-again c =
 
 pub ghost-self : need.ghost-self
 ghost-self c =
-    let words = c .loop-i .self .words in
-    let i = c .loop-i .i in
-    let both = or-lt 64 (getD words i 0) (getD (c .args .other .now .words) i 0) (c .loop-i .self .fits i) (c .args .other .now .fits i) in
-    (simp length-set (c .loop-i .self .whole), (fit-set words i _ (omega arith) both (c .loop-i .self .fits), tt))
+    (simp length-set (c .loop-i .self .whole), (fit-set (c .loop-i .self .words) (c .loop-i .i) _ (omega arith) (search (needs, or-lt)) (c .loop-i .self .fits), tt))
 
 pub returns : need.returns
 returns c =
