@@ -5,6 +5,7 @@ mod lent;
 mod names;
 mod reader;
 mod rows;
+mod step;
 
 pub use count::MAX_WORDS;
 pub use count::check_count;
