@@ -7,10 +7,11 @@ use lib.ListN.{length}
 use Rattle.std.specs.declared.option.Option.{Option}
 use Rattle.std.specs.declared.option.Option.the-variants.{Some, None}
 use Rattle.words.specs.declared.word.StackEffect.{StackEffect}
+use Rattle.words.specs.Words.{kindNumber, ruleOf}
 use Rattle.codes.specs.Sorts.{Sort}
 use Rattle.stack.specs.declared.lent.Stack.{Stack}
 use Rattle.stack.specs.Held.{held, SameSlots}
-use Rattle.questions.specs.Questions.{depthBy, mostEntries}
+use Rattle.questions.specs.Questions.{appliedWord, depthAfter, depthBy, mostEntries}
 
 -- whether a place is in each entry, the top first
 abbrev pub seen : {S R : Type 0} → Sort S R → ℕ → Stack R → List Bool
@@ -26,3 +27,12 @@ pub record Turned {S R : Type 0} (sort : Sort S R) (change : ℕ → List Bool �
 abbrev pub Fitting : ℕ → Option StackEffect → Type 0
 Fitting d None = ⊥
 Fitting d (Some e) = (e .takes ≤ d) × (depthBy d e ≤ mostEntries)
+
+-- a word is carried out: named has the places of each name's value, whole those of all
+abbrev pub Stepped : {S R : Type 0} → Sort S R → (ℕ → ℕ → Bool) → (ℕ → Bool) → ℕ → Stack R → Stack R → Type 0
+Stepped sort named whole w old new =
+    Turned sort
+    (λ p. appliedWord (λ k. named k p) (whole p) w)
+    (depthAfter (length (held old)) (ruleOf (kindNumber w) .effect))
+    old
+    new

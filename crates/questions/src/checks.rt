@@ -17,10 +17,10 @@ use words::QuestionFromCatalogue;
 use words::StackEffect;
 
 // The most entries at a time.
-pub const MAX_ENTRIES: usize = 32;
+pub(super) const MAX_ENTRIES: usize = 32;
 
 // The value of a word that names a kind, and none of a word whose low bits are 0, as they have to be.
-pub fn named_row<T: Truth, N: Names<T>>(
+pub(super) fn named_row<T: Truth, N: Names<T>>(
     names: &N,
     rule: LowBits,
     placed: PlacedWord,
@@ -36,7 +36,11 @@ pub fn named_row<T: Truth, N: Names<T>>(
     }
 }
 
-pub fn check_effect(effect: StackEffect, depth: usize, index: usize) -> Result<(), QuestionFault>
+pub(super) fn check_effect(
+    effect: StackEffect,
+    depth: usize,
+    index: usize,
+) -> Result<(), QuestionFault>
     requires { ⌜ depth ≤ 32 ⌝ }
     ensures { λ r. ⌜ Says questionTold r (effectRefusal index depth effect) ⌝ }
 {

@@ -3,7 +3,7 @@ ghost use mathlib.Core.Bool.{Bool, false, not, _&&_, _||_};
 ghost use Rattle.codes.specs.Sorts.{Agree};
 use codes::Truth;
 
-pub fn met<T: Truth + Drop>(a: T::Row, b: T::Row) -> T::Row
+pub(super) fn met<T: Truth + Drop>(a: T::Row, b: T::Row) -> T::Row
     ensures { λ r. ⌜ Agree (T·Truth .sort .width) (T·Truth .sort .reads r) (λ p. T·Truth .sort .reads a p && T·Truth .sort .reads b p) ⌝ }
 {
     let mut value = T::read(a);
@@ -11,7 +11,7 @@ pub fn met<T: Truth + Drop>(a: T::Row, b: T::Row) -> T::Row
     value.write()
 }
 
-pub fn joined<T: Truth + Drop>(a: T::Row, b: T::Row) -> T::Row
+pub(super) fn joined<T: Truth + Drop>(a: T::Row, b: T::Row) -> T::Row
     ensures { λ r. ⌜ Agree (T·Truth .sort .width) (T·Truth .sort .reads r) (λ p. T·Truth .sort .reads a p || T·Truth .sort .reads b p) ⌝ }
 {
     let mut value = T::read(a);
@@ -20,7 +20,7 @@ pub fn joined<T: Truth + Drop>(a: T::Row, b: T::Row) -> T::Row
 }
 
 // What of all is not in a.
-pub fn lacked<T: Truth + Drop>(all: T::Row, a: T::Row) -> T::Row
+pub(super) fn lacked<T: Truth + Drop>(all: T::Row, a: T::Row) -> T::Row
     ensures { λ r. ⌜ Agree (T·Truth .sort .width) (T·Truth .sort .reads r) (λ p. T·Truth .sort .reads all p && not (T·Truth .sort .reads a p)) ⌝ }
 {
     let mut others = T::read(a);
@@ -30,7 +30,7 @@ pub fn lacked<T: Truth + Drop>(all: T::Row, a: T::Row) -> T::Row
     value.write()
 }
 
-pub fn nothing<T: Truth + Drop>() -> T::Row
+pub(super) fn nothing<T: Truth + Drop>() -> T::Row
     ensures { λ r. ⌜ Agree (T·Truth .sort .width) (T·Truth .sort .reads r) (λ _. false) ⌝ }
 {
     T::empty().write()
