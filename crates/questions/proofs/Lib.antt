@@ -1,3 +1,4 @@
 pub mod Seen
 pub mod Table
 pub mod Steps
+pub mod Runs

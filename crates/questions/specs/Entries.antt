@@ -1,14 +1,14 @@
 -- The entries of a stack of rows, as seen at one place.
 use mathlib.Core.Path.{_≡_}
 use mathlib.Core.Bool.{Bool}
-use mathlib.Core.List.{List, map, reverse}
+use mathlib.Core.List.{List, [], _∷_, map, reverse}
 use Prim.Native.Nat.{ℕ, _<_, _≤_}
 use lib.ListN.{length}
 use Rattle.std.specs.declared.option.Option.{Option}
 use Rattle.std.specs.declared.option.Option.the-variants.{Some, None}
 use Rattle.words.specs.declared.word.StackEffect.{StackEffect}
 use Rattle.words.specs.Words.{kindNumber, ruleOf}
-use Rattle.codes.specs.Sorts.{Sort}
+use Rattle.codes.specs.Sorts.{Sort, Agree}
 use Rattle.stack.specs.declared.lent.Stack.{Stack}
 use Rattle.stack.specs.Held.{held, SameSlots}
 use Rattle.questions.specs.Questions.{appliedWord, depthAfter, depthBy, mostEntries}
@@ -36,3 +36,7 @@ Stepped sort named whole w old new =
     (depthAfter (length (held old)) (ruleOf (kindNumber w) .effect))
     old
     new
+
+-- one row is left, and is read as this set
+abbrev pub LeftAlone : {S R : Type 0} → Sort S R → (ℕ → Bool) → Stack R → Type 0
+LeftAlone {S} {R} sort set stack = (row : R) × (held stack ≡ row ∷ []) × Agree (sort .width) (sort .reads row) set

@@ -58,6 +58,10 @@ abbrev pub holds : (ℕ → Bool) → Bool → List Bool → List ℕ → Bool
 holds named all entries [] = getD entries 0 false
 holds named all entries (w ∷ words) = holds named all (appliedWord named all w entries) words
 
+-- the places of a question's value, given those of each name's value and those of all
+abbrev pub valueOf : (ℕ → ℕ → Bool) → (ℕ → Bool) → List ℕ → ℕ → Bool
+valueOf named whole words p = holds (λ k. named k p) (whole p) [] words
+
 -- the name in the word at this index
 abbrev pub nameRefusal : (ℕ → Bool) → ℕ → ℕ → Option Refusal
 nameRefusal standing i serial = firstOf (serialRefusal serial i ∷ refuseIf (not (standing serial)) (refusal 5 i part.Kind) ∷ [])

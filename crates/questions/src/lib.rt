@@ -1,6 +1,7 @@
 // Questions about kinds: reading their words, and evaluating them over any truth sort. Knows nothing of catalogues.
 mod checks;
 mod count;
+mod evaluation;
 mod lent;
 mod names;
 mod reader;
@@ -9,6 +10,7 @@ mod step;
 
 pub use count::MAX_WORDS;
 pub use count::check_count;
+pub use evaluation::evaluate;
 pub use lent::PlacedWord;
 pub use lent::Reader;
 pub use names::Names;
