@@ -2,3 +2,4 @@ pub mod Seen
 pub mod Table
 pub mod Steps
 pub mod Runs
+pub mod Values
