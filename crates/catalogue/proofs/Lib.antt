@@ -12,3 +12,4 @@ pub mod Writing
 pub mod ImageChecks
 pub mod ImagePassed
 pub mod Filling
+pub mod ImageLaws

@@ -10,6 +10,7 @@ ghost use Rattle.words.specs.declared.word.WordKind.the-variants.{Name};
 ghost use Rattle.words.specs.Words.{wordOf};
 ghost use Rattle.words.specs.Refusals.{Says, imageTold};
 ghost use Rattle.catalogue.specs.Formats.{Listed, imageOf, lineWords};
+ghost use Rattle.catalogue.specs.Images.{ReadsBack, TellsApart};
 ghost use Rattle.catalogue.specs.Ledger.{write-image, refused};
 ghost use Rattle.catalogue.specs.View.{view};
 use super::state::Catalogue;
@@ -48,10 +49,13 @@ fn write_lines(lines: &[Line], at: usize, image: &mut [u32])
 }
 
 impl Catalogue {
-    // Writes the image of what stands, and tells how many words it has.
+    // Writes the image of what stands, and tells how many words it has. The image reads back as the same kinds and
+    // lines, and no other kinds and lines have it.
     pub fn write_image(&self, image: &mut [u32]) -> Result<usize, ImageFault>
         ensures says { λ r. ⌜ Says imageTold r (refused (view (now (self .entry)) .book) (write-image (length (now (image .entry))))) ⌝ }
         ensures list { λ r. ⌜ Listed (imageOf (view (now (self .entry)) .book .kinds) (view (now (self .entry)) .book .lines)) (now (image .entry)) (now (image .exit)) r ⌝ }
+        ensures back { λ _. ⌜ ReadsBack (view (now (self .entry)) .book .wide) (view (now (self .entry)) .book .kinds) (view (now (self .entry)) .book .lines) ⌝ }
+        ensures alone { λ _. ⌜ TellsApart (view (now (self .entry)) .book .kinds) (view (now (self .entry)) .book .lines) ⌝ }
     {
         let names = self.kinds.len();
         let end = 1 + names + 2 * self.lines.len();

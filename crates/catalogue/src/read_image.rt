@@ -9,7 +9,7 @@ ghost use Rattle.std.specs.Results.{Cases};
 ghost use Rattle.descent.specs.Order.{risingFrom, lineKey};
 ghost use Rattle.words.specs.Words.{lowBits};
 ghost use Rattle.words.specs.Refusals.{Says, catalogueTold, imageTold};
-ghost use Rattle.catalogue.specs.Formats.{serialsIn, pairsIn, lineIn, namedRefusal, childRefusal, parentRefusal, endRefusal, linesRefusal, imageRefusal, countIn};
+ghost use Rattle.catalogue.specs.Formats.{imageOf, serialsIn, pairsIn, lineIn, namedRefusal, childRefusal, parentRefusal, endRefusal, linesRefusal, imageRefusal, countIn};
 ghost use Rattle.catalogue.specs.Ledger.{read-image};
 ghost use Rattle.catalogue.specs.Proper.{seated};
 ghost use Rattle.catalogue.specs.View.{view, Moved};
@@ -197,9 +197,10 @@ fn take_lines(lines: &mut Vec<Line>, words: &[u32])
 }
 
 impl Catalogue {
-    // Fills an empty catalogue with the kinds and lines of an image.
+    // Fills an empty catalogue with the kinds and lines of an image, which then writes back as the same words.
     pub fn read_image(&mut self, words: &[u32]) -> Result<(), ImageFault>
-        ensures { λ r. ⌜ Moved imageTold (read-image (now (words .entry))) (view (now (self .entry))) (view (now (self .exit))) r ⌝ }
+        ensures moved { λ r. ⌜ Moved imageTold (read-image (now (words .entry))) (view (now (self .entry))) (view (now (self .exit))) r ⌝ }
+        ensures back { λ r. ⌜ Cases r (λ _. imageOf (view (now (self .exit)) .book .kinds) (view (now (self .exit)) .book .lines) ≡ now (words .entry)) (λ _. Unit {0}) ⌝ }
     {
         if !self.kinds.is_empty() {
             return Err(ImageFault::NotEmpty);

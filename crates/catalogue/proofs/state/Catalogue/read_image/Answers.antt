@@ -14,12 +14,12 @@ use Rattle.descent.specs.Order.{risingFrom, lineKey}
 use Rattle.descent.specs.Proper.{below, joining}
 use Rattle.words.specs.Refusals.{imageTold}
 use Rattle.catalogue.specs.declared.state.Catalogue.{Catalogue}
-use Rattle.catalogue.specs.Formats.{serialsIn, pairsIn, kindsIn, linesIn}
+use Rattle.catalogue.specs.Formats.{serialsIn, pairsIn, kindsIn, linesIn, imageOf}
 use Rattle.catalogue.specs.Ledger.{read-image, opened}
 use Rattle.catalogue.specs.View.{view}
 use Rattle.catalogue.proofs.Chain.{passes, last-check, stops, unrefused, refuses}
 use Rattle.catalogue.proofs.Filling.{no-lines}
-use Rattle.catalogue.proofs.ImagePassed.{passed-hold, image-cut}
+use Rattle.catalogue.proofs.ImagePassed.{passed-hold, image-cut, image-back}
 use Rattle.catalogue.proofs.KindEdits.{serials, places, seats-count}
 use Rattle.catalogue.proofs.Moves.{stays, goes}
 use Rattle.catalogue.proofs.state.Catalogue.read_image.Needs as need
@@ -46,8 +46,12 @@ pub returns-then-not-is-empty : need.returns-then-not-is-empty
 returns-then-not-is-empty c =
     let s = c .args .self .now in
     let some = eqb-false (vec-len (s .kinds)) 0 (sym (c .if-not-is-empty .ensures tt)) in
-    stays imageTold (read-image (c .args .words .now)) (view s) _
-    (stops _ _ _ (refuses _ _ (lt-ltb 0 (length (serials (vec-items (s .kinds)))) (omega (arith, some, s .kinds .ok .0, length-map (vec-items (s .kinds)) (λ k. k .serial))))))
+    record {
+      moved =
+          stays imageTold (read-image (c .args .words .now)) (view s) _
+          (stops _ _ _ (refuses _ _ (lt-ltb 0 (length (serials (vec-items (s .kinds)))) (omega (arith, some, s .kinds .ok .0, length-map (vec-items (s .kinds)) (λ k. k .serial))))));
+      back = tt;
+    }
 
 pub returns-in-Break-count : need.returns-in-Break-count
 returns-in-Break-count c =
@@ -55,8 +59,12 @@ returns-in-Break-count c =
     let p = err-from-errBy (c .from-residual .result) (c .from-residual .ensures .1) in
     let is = empty s (eqb-true (vec-len (s .kinds)) 0 (sym (c .if-not-is-empty .ensures tt))) in
     rw (p .1, p .2)
-    (stays imageTold (read-image (c .args .words .now)) (view s) _
-    (passes _ _ _ (unrefused _ _ (le-ltb 0 (length (serials (vec-items (s .kinds)))) (omega (arith, ap length (is .kinds))))) (last-check _ _ (c .in-Break-count .ensures tt .says))))
+    record {
+      moved =
+          stays imageTold (read-image (c .args .words .now)) (view s) _
+          (passes _ _ _ (unrefused _ _ (le-ltb 0 (length (serials (vec-items (s .kinds)))) (omega (arith, ap length (is .kinds))))) (last-check _ _ (c .in-Break-count .ensures tt .says)));
+      back = tt;
+    }
 
 pub part-seat-names-end : need.part-seat-names-end
 part-seat-names-end c =
@@ -126,10 +134,13 @@ returns c =
     let s = c .args .self .now in
     let ws = c .args .words .now in
     let cut = image-cut (c .args .self .now .width) (c .in-Continue-count .count) (c .args .words .now) (c .in-Continue-count .ensures tt .says) (c .in-Continue-count .ensures tt .count) in
-    let none = eqb-true (vec-len (s .kinds)) 0 (sym (c .if-not-is-empty .ensures tt)) in
-    let is = empty s none in
+    let is = empty s (eqb-true (vec-len (s .kinds)) 0 (sym (c .if-not-is-empty .ensures tt))) in
     let kinds : serials (vec-items (c .seat-names .last .kinds)) ≡ kindsIn ws = c .seat-names .ensures .serials ∙ ap₂ (λ (us vs : List ℕ). us ++ vs) (is .kinds) (cut .named) in
     let lines : vec-items (c .take-lines .last .lines) ≡ linesIn ws = c .take-lines .ensures .items ∙ ap₂ (λ (us vs : List Line). us ++ vs) (is .lines) (cut .lined) in
-    goes imageTold (read-image ws) (view s) _ _
-    (passes _ _ _ (unrefused _ _ (le-ltb 0 (length (serials (vec-items (s .kinds)))) (omega (arith, ap length (is .kinds))))) (last-check _ _ (c .in-Continue-count .ensures tt .says)))
-    (ap₂ (opened (view s .book)) kinds lines)
+    record {
+      moved =
+          goes imageTold (read-image ws) (view s) _ _
+          (passes _ _ _ (unrefused _ _ (le-ltb 0 (length (serials (vec-items (s .kinds)))) (omega (arith, ap length (is .kinds))))) (last-check _ _ (c .in-Continue-count .ensures tt .says)))
+          (ap₂ (opened (view s .book)) kinds lines);
+      back = ap₂ imageOf kinds lines ∙ image-back (s .width) ws (c .in-Continue-count .ensures tt .says);
+    }

@@ -19,17 +19,17 @@ use Rattle.catalogue.specs.declared.state.Catalogue.{Catalogue}
 use Rattle.catalogue.specs.Formats.{lineWords, imageLength, imageBody, imageOf}
 use Rattle.catalogue.specs.View.{view}
 use Rattle.catalogue.proofs.Chain.{not-refused}
-use Rattle.catalogue.proofs.KindEdits.{serials, places, seats-count}
+use Rattle.catalogue.proofs.ImageLaws.{standing-held, reads-back, tells-apart}
+use Rattle.catalogue.proofs.KindEdits.{serials}
 use Rattle.catalogue.proofs.Writing.{children-below, parents-below, low-same, length-image, image-written}
 use Rattle.catalogue.proofs.state.Catalogue.write_image.Needs as need
 
 -- what stands is few enough that every count fits a word
 few : (s : Catalogue) (n m : ℕ) → n ≡ s .kinds .len → m ≡ s .lines .len → (n ≤ 512) × (m ≤ 2048) × (n ≡ length (view s .book .kinds)) × (m ≡ length (view s .book .lines))
 few s n m e f =
-    let seats = seats-count (s .width) (places (vec-items (s .kinds))) (vec-items (s .free)) (s .seats) in
+    let h = standing-held s in
     let a = length-map (vec-items (s .kinds)) (λ k. k .serial) in
-    let b = length-map (vec-items (s .kinds)) (λ k. k .place) in
-    (omega (arith, s .wide .1, s .kinds .ok .0), omega (arith, s .few), omega (arith, s .kinds .ok .0), omega (arith, s .lines .ok .0))
+    (omega (arith, h .wide, h .places, s .kinds .ok .0), omega (arith, s .few), omega (arith, s .kinds .ok .0), omega (arith, s .lines .ok .0))
 
 -- the room that is asked for is the image's length
 asked : (s : Catalogue) (n m : ℕ) → n ≡ s .kinds .len → m ≡ s .lines .len → 1 + n + 2 * m + 1 ≡ imageLength (view s .book .kinds) (view s .book .lines)
@@ -40,7 +40,12 @@ returns-in-Break-need c =
     let s = c .args .self .now in
     let p = err-from-errBy (c .from-residual .result) (c .from-residual .ensures .1) in
     rw (p .1, p .2)
-    record { says = ap (listRefusal (length (c .args .image .now))) (sym (asked s _ _ (c .len-names .ensures) (c .len .ensures))) ∙ c .in-Break-need .ensures tt; list = refl }
+    record {
+      says = ap (listRefusal (length (c .args .image .now))) (sym (asked s _ _ (c .len-names .ensures) (c .len .ensures))) ∙ c .in-Break-need .ensures tt;
+      list = refl;
+      back = reads-back (s .width) (view s .book .kinds) (view s .book .lines) (standing-held s);
+      alone = tells-apart (s .width) (view s .book .kinds) (view s .book .lines) (standing-held s);
+    }
 
 pub cast-names : need.cast-names
 cast-names c = let k = few (c .args .self .now) _ _ (c .len-names .ensures) (c .len .ensures) in omega (arith, k .0)
@@ -81,4 +86,6 @@ returns c =
             (c .write-lines .ensures ∙ ap₂ (λ (ls : List Line) (i : ℕ). paste (c .write-names .last .image) (1 + n) (joined lineWords ls) (2 * i)) (c .deref-2 .ensures .value) (c .deref-2 .ensures .len ∙ sym (c .len .ensures)))
             (omega (arith, c .write-lines .kept .image, c .write-names .kept .image, length-set old 0 (c .make-word .result))),
       );
+      back = reads-back (s .width) kinds lines (standing-held s);
+      alone = tells-apart (s .width) kinds lines (standing-held s);
     }
