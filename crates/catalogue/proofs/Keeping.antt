@@ -33,7 +33,7 @@ rising-take a zero xs r = refl
 rising-take a (suc n) [] r = refl
 rising-take a (suc n) (x ∷ xs) r = let p = and-parts (ltb a x) (risingFrom x xs) r in and-from (ltb a x) (risingFrom x (take n xs)) (p .0) (rising-take x n xs (p .1))
 
-stands-above : (a : ℕ) (xs : List ℕ) (x : ℕ) → risingFrom a xs ≡ true → stands x xs ≡ true → a < x
+pub stands-above : (a : ℕ) (xs : List ℕ) (x : ℕ) → risingFrom a xs ≡ true → stands x xs ≡ true → a < x
 stands-above a [] x r s = absurd (false≢true s)
 stands-above a (y ∷ ys) x r s =
     let p = and-parts (ltb a y) (risingFrom y ys) r in

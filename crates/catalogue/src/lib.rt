@@ -1,6 +1,8 @@
 // A catalogue of kinds and lines: entering, withdrawing, its image, and recalling kept answers.
 mod enter;
+mod image;
 mod names;
+mod read_image;
 mod recall;
 mod search;
 mod state;
