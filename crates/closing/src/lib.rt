@@ -1,0 +1,2 @@
+// Closing: the table of descents filled over any sort of code, and the ring that stops it.
+mod rows;
