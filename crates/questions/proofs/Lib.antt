@@ -1,0 +1,3 @@
+pub mod Seen
+pub mod Table
+pub mod Steps
