@@ -1,4 +1,6 @@
 // Closing: the table of descents filled over any sort of code, and the ring that stops it.
 mod fill;
 mod find;
+mod marks;
+mod ring;
 mod rows;
