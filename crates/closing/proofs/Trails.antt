@@ -6,9 +6,9 @@ use mathlib.Core.Logic.{_⊎_, _≢_, inl, inr}
 use Prim.Native.Nat.{ℕ, zero, suc, _+_, _-_, _<_, _≤_}
 use native.Mathlib.Omega.{arith}
 use denote.Ref.{now}
-use lib.ListN.{length, getD, set, drop}
+use lib.ListN.{length, getD, set, drop, replicate}
 use lib.Dec.{eqb}
-use Rattle.std.proofs.shelf.Lists.{getD-append-left, getD-push, length-push, getD-set-same, getD-set-other, length-set, map-push, getD-map, length-map, getD-drop, length-drop}
+use Rattle.std.proofs.shelf.Lists.{getD-append-left, getD-push, length-push, getD-set-same, getD-set-other, length-set, map-push, getD-map, length-map, getD-drop, length-drop, getD-replicate, length-replicate, getD-past}
 use Rattle.std.proofs.shelf.Tests.{cases-eq, cases-lt, eqb-true, ne-eqb, eq-eqb, or-left, or-right, both-ways}
 use Rattle.descent.specs.declared.line.Line.{Line}
 use Rattle.descent.specs.declared.standing.Standing.{Standing}
@@ -16,7 +16,7 @@ use Rattle.descent.specs.Lines.{hasLine, stands, Distinct}
 use Rattle.descent.specs.Descent.{Descends, LeadsUp}
 use Rattle.descent.specs.Rings.{Ring}
 use Rattle.descent.proofs.Lines.{stands-append, stands-position}
-use Rattle.descent.proofs.Descent.{descends-leads}
+use Rattle.descent.proofs.Descent.{descends-leads, leads-first}
 use Rattle.descent.proofs.Proper.{joining-line}
 use Rattle.closing.specs.Direct.{serialsOf, placeOf, serialAt}
 use Rattle.closing.specs.Marks.{Looped}
@@ -31,6 +31,10 @@ pub zeros-set : (xs : List ℕ) (i : ℕ) → i < length xs → getD xs i 0 ≡ 
 zeros-set [] i lt e = absurd (omega arith)
 zeros-set (x ∷ xs) zero lt e = rw e (omega arith)
 zeros-set (x ∷ xs) (suc i) lt e = let rest = zeros-set xs i (omega arith) e in omega arith
+
+zeros-replicate : (n : ℕ) → zeros (replicate n 0) ≡ n
+zeros-replicate zero = refl
+zeros-replicate (suc n) = let rest = zeros-replicate n in omega arith
 
 -- what holds of each element, and of one more at the end
 each-push : (P : ℕ → Type 0) (xs : List ℕ) (y : ℕ) → ((i : ℕ) → i < length xs → P (getD xs i 0)) → P y →
@@ -63,6 +67,11 @@ module _ (st : Standing) where
     pub free : getD bytes (placeOf (now (st .kinds)) kind) 0 ≡ 0
     pub link : (n : ℕ) → n + 1 ≡ length trail → hasLine (getD trail n 0) kind (now (st .lines)) ≡ true
     pub first : (kind ≡ top) ⊎ (getD bytes (placeOf (now (st .kinds)) top) 0 ≡ 1)
+
+  -- a kind that leads up stands
+  pub leader-stands : (k m : ℕ) → LeadsUp (now (st .lines)) k m → stands k (serialsOf (now (st .kinds))) ≡ true
+  leader-stands k m up =
+      let q = leads-first up in joining-line (serialsOf (now (st .kinds))) (now (st .lines)) (st .joins) k (q .0) (q .1) .0
 
   -- room is left for a kind that is not marked
   pub room-left : (top : ℕ) (bytes met trail : List ℕ) (kind : ℕ) → Trail bytes met trail → Ahead top bytes trail kind →
@@ -204,3 +213,46 @@ module _ (st : Standing) where
               rw (getD-drop s xs (length (drop s xs) - 1) 0, getD-drop s xs 0 0, end, none, last, start) h;
           };
       }
+
+  -- before the walk nothing is met, and nothing marked
+  pub setting-out : (top : ℕ) (bytes met : List ℕ) → LeadsUp (now (st .lines)) top top →
+      bytes ≡ replicate (st .width) 0 → met ≡ [] → Trail bytes met [] × Ahead top bytes [] top
+  setting-out top bytes met up eb em = (
+    record {
+      standing = λ i lt. absurd (omega arith);
+      places = em;
+      apart = λ i j lt h e. omega arith;
+      lines = λ i lt. absurd (omega arith);
+      marked = λ i lt. absurd (omega arith);
+      only = λ p lt. inl (zero-at p);
+      long = ap length eb ∙ length-replicate (st .width) 0;
+      few = let z : zeros bytes ≡ st .width = ap zeros eb ∙ zeros-replicate (st .width) in omega arith;
+    },
+    record {
+      standing = leader-stands top top up;
+      leads = up;
+      free = zero-at (placeOf (now (st .kinds)) top);
+      link = λ n e. absurd (omega arith);
+      first = inl refl;
+    },
+  )
+    where
+      zero-at : (p : ℕ) → getD bytes p 0 ≡ 0
+      zero-at p =
+          elim (cases-lt p (st .width)) [
+            | inl lt ↦ rw eb (getD-replicate (st .width) p 0 0 lt)
+            | inr le ↦ rw eb (getD-past (replicate (st .width) 0) p 0 (simp length-replicate le))
+          ]
+
+  -- a turn of the walk: the byte set, and the place pushed
+  pub visited : (top : ℕ) (bytes met trail : List ℕ) (kind place : ℕ) (bytes′ met′ : List ℕ) →
+      Trail bytes met trail → Ahead top bytes trail kind → place ≡ placeOf (now (st .kinds)) kind →
+      bytes′ ≡ set bytes place 1 → met′ ≡ met ++ place ∷ [] →
+      Trail bytes′ met′ (trail ++ kind ∷ [])
+      × (getD bytes′ (placeOf (now (st .kinds)) top) 0 ≡ 1)
+      × (zeros bytes′ + 1 ≡ zeros bytes)
+  visited top bytes met trail kind place bytes′ met′ t a ep eb em = rw (em, eb, ep) (
+    visit top bytes met trail kind t a,
+    top-marked top bytes trail kind (t .long) a,
+    room-left top bytes met trail kind t a .1,
+  )

@@ -1,7 +1,9 @@
 // The test for a ring in a closed table, and the walk that finds one.
 ghost use mathlib.Core.Path.{_≡_};
 ghost use mathlib.Core.Bool.{true, false};
-ghost use Prim.Native.Nat.{ℕ, _+_, _<_, _≤_};
+ghost use mathlib.Core.List.{[]};
+ghost use Prim.Native.Nat.{ℕ, _<_, _≤_};
+ghost use denote.Ref.{name};
 ghost use lib.ListN.{length, take, replicate};
 ghost use Rattle.std.specs.Options.{Cases as BySome};
 ghost use Rattle.descent.specs.Lines.{hasLine, stands};
@@ -9,12 +11,16 @@ ghost use Rattle.descent.specs.Descent.{LeadsUp};
 ghost use Rattle.descent.specs.Rings.{ringed};
 ghost use Rattle.closing.specs.Tables.{setsOf, cell, Filled};
 ghost use Rattle.closing.specs.Direct.{serialsOf, placesOf, placeOf};
+ghost use Rattle.closing.specs.Marks.{Looped};
+ghost use Rattle.stack.specs.Held.{held, room, SameSlots};
 use super::find::lines_before;
 use super::find::place_of;
+use super::marks::Marks;
 use super::rows::has;
 use codes::Code;
 use codes::Truth;
 use descent::Standing;
+use stack::Stack;
 
 // A kind that leads up to itself.
 fn ring_line<C: Code + Drop>(standing: &Standing<'_>, table: &[C::Row]) -> Option<u32>
@@ -44,4 +50,29 @@ fn parent<C: Code + Drop>(standing: &Standing<'_>, table: &[C::Row], top: usize,
         }
     }
     None
+}
+
+// Goes up from the kind `top`, which leads up to itself, until a marked kind is met; the places met lie on the stack.
+fn climb<C: Code + Drop>(standing: &Standing<'_>, table: &[C::Row], marks: &mut Marks<'_>, stack: &mut Stack<'_, usize>, top: u32) -> usize
+    requires { ⌜ now standing .width ≤ length (now table) ⌝ ∗ ⌜ now standing .width ≤ C·Truth .sort .width ⌝ ∗ ⌜ Filled (now standing .width) (serialsOf (now (now standing .kinds))) (placesOf (now (now standing .kinds))) (now (now standing .lines)) (setsOf (C·Truth .sort) (now table)) ⌝ }
+    requires { ⌜ LeadsUp (now (now standing .lines)) top top ⌝ ∗ ⌜ now (now marks .bytes) ≡ replicate (now standing .width) 0 ⌝ ∗ ⌜ held (now stack) ≡ [] ⌝ ∗ ⌜ room (now stack) ≡ now standing .width ⌝ }
+    ensures looped { λ r. ⌜ Looped (now (now (standing .entry) .kinds)) (now (now (standing .entry) .lines)) (held (now (stack .exit))) r ⌝ }
+    ensures slots { λ _. ⌜ SameSlots (now (stack .entry)) (now (stack .exit)) ⌝ }
+    ensures marks { λ _. ⌜ (name (now (marks .exit) .bytes) ≡ name (now (marks .entry) .bytes)) × (length (now (now (marks .exit) .bytes)) ≡ length (now (now (marks .entry) .bytes))) ⌝ }
+{
+    let peak = place_of(standing, top);
+    let mut kind = top;
+    loop {
+        let place = place_of(standing, kind);
+        marks.set(place);
+        let _ = stack.push(place);
+        let Some(next) = parent::<C>(standing, table, peak, kind) else {
+            unreachable()
+        };
+        let above = place_of(standing, next);
+        if marks.is_set(above) {
+            return above;
+        }
+        kind = next;
+    }
 }
