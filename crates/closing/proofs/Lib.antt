@@ -3,3 +3,5 @@ pub mod Cuts
 pub mod Direct
 pub mod Filled
 pub mod Trails
+pub mod Ringing
+pub mod Settling

@@ -1,7 +1,7 @@
 // The test for a ring in a closed table, and the walk that finds one.
 ghost use mathlib.Core.Path.{_≡_};
 ghost use mathlib.Core.Bool.{true, false};
-ghost use mathlib.Core.List.{[]};
+ghost use mathlib.Core.List.{List, []};
 ghost use Prim.Native.Nat.{ℕ, _<_, _≤_};
 ghost use denote.Ref.{name};
 ghost use lib.ListN.{length, take, replicate};
@@ -75,4 +75,20 @@ fn climb<C: Code + Drop>(standing: &Standing<'_>, table: &[C::Row], marks: &mut 
         }
         kind = next;
     }
+}
+
+// The place that a walk met twice and how many places it met, where the table shows a ring; every mark is zero afterwards.
+pub(crate) fn find_ring<C: Code + Drop>(standing: &Standing<'_>, table: &[C::Row], marks: &mut [u8], walk: &mut [usize]) -> Option<(usize, usize)>
+    requires { ⌜ now standing .width ≤ length (now table) ⌝ ∗ ⌜ now standing .width ≤ C·Truth .sort .width ⌝ ∗ ⌜ Filled (now standing .width) (serialsOf (now (now standing .kinds))) (placesOf (now (now standing .kinds))) (now (now standing .lines)) (setsOf (C·Truth .sort) (now table)) ⌝ }
+    requires { ⌜ length (now marks) ≡ now standing .width ⌝ ∗ ⌜ length (now walk) ≡ now standing .width ⌝ }
+    ensures found { λ r. ⌜ BySome r (ringed (now (now (standing .entry) .lines)) ≡ false) (λ f. (f .1 ≤ now (standing .entry) .width) × ((met : List ℕ) × (take (f .1) (now (walk .exit)) ≡ met) × Looped (now (now (standing .entry) .kinds)) (now (now (standing .entry) .lines)) met (f .0))) ⌝ }
+    ensures clear { λ _. ⌜ now (marks .exit) ≡ replicate (now (standing .entry) .width) 0 ⌝ }
+{
+    let mut guard = Marks::over(marks);
+    let Some(top) = ring_line::<C>(standing, table) else {
+        return None;
+    };
+    let mut stack = Stack::new(walk);
+    let at = climb::<C>(standing, table, &mut guard, &mut stack, top);
+    Some((at, stack.depth()))
 }
