@@ -138,7 +138,7 @@ module _ (st : Standing) where
   line-ends n lt =
       let l = lineAt (now (st .lines)) n in
       let q = joining-line (serialsOf (now (st .kinds))) (now (st .lines)) (st .joins) (l .child) (l .parent)
-          (line-at (now (st .lines)) n (record { child = 0; parent = 0 }) lt) in
+      (line-at (now (st .lines)) n (record { child = 0; parent = 0 }) lt) in
       (q .0, q .1)
 
   pub direct-right : Direct (st .width) (serialsOf (now (st .kinds))) (placesOf (now (st .kinds))) (now (st .lines))

@@ -46,11 +46,11 @@ module _ (st : Standing) where
       let truth = direct (now (st .kinds)) ls in
       let p = standing-placed st in
       let same : (i j : ℕ) → i < w → j < w → cell closed i j ≡ closure w truth i j =
-          λ i j hi hj. after i j hi hj ∙ closure-agrees w (cell filled) truth before w (omega arith) i j hi hj in
+      λ i j hi hj. after i j hi hj ∙ closure-agrees w (cell filled) truth before w (omega arith) i j hi hj in
       record {
         descent = λ a b ha hb.
-          same (getD places a 0) (getD places b 0) (p .below a ha) (p .below b hb)
-          ∙ closure-descends w kinds places ls truth p (direct-right st) a b ha hb;
+            same (getD places a 0) (getD places b 0) (p .below a ha) (p .below b hb)
+            ∙ closure-descends w kinds places ls truth p (direct-right st) a b ha hb;
         only = λ i j hi hj out. same i j hi hj ∙ closure-only-places w kinds places ls truth p (direct-right st) i j hi hj out;
       }
 

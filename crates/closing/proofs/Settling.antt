@@ -75,13 +75,13 @@ module _ (st : Standing) where
         let same : ps ≡ map (placeOf ks) kinds = e ∙ ap (drop start) (loop .places) ∙ drop-map (placeOf ks) start (loop .trail) in
         let n : length ps ≡ length kinds = ap length same ∙ length-map kinds (placeOf ks) in
         let names : map f ps ≡ map (wordOf Name) kinds =
-            ap (map f) same ∙ back-again (wordOf Name) kinds (λ i h.
-              let size = length-drop start (loop .trail) in
-              rw (getD-drop start (loop .trail) i 0) (loop .standing (start + i) (omega arith))) in
+        ap (map f) same ∙ back-again (wordOf Name) kinds (λ i h.
+        let size = length-drop start (loop .trail) in
+        rw (getD-drop start (loop .trail) i 0) (loop .standing (start + i) (omega arith))) in
         record {
           kinds = kinds;
           ring = loop .ring start lt here;
           words = words
-            ∙ ap (λ k. (wordOf RingHead k ∷ map f ps) ++ drop (k + 1) old) n
-            ∙ ap (λ xs. (wordOf RingHead (length kinds) ∷ xs) ++ drop (length kinds + 1) old) names;
+              ∙ ap (λ k. (wordOf RingHead k ∷ map f ps) ++ drop (k + 1) old) n
+              ∙ ap (λ xs. (wordOf RingHead (length kinds) ∷ xs) ++ drop (length kinds + 1) old) names;
         }

@@ -101,38 +101,38 @@ module _ (st : Standing) where
         standing = each-push (λ x. stands x (serialsOf (now (st .kinds))) ≡ true) trail kind (t .standing) (a .standing);
         places = ap (λ xs. xs ++ at ∷ []) (t .places) ∙ sym (map-push (placeOf (now (st .kinds))) trail kind);
         apart = λ i j lt h e.
-          let hi : i < length trail = omega arith in
-          elim (cases-lt j (length trail)) [
-            | inl hj ↦ t .apart i j lt hj (rw (getD-append-left trail (kind ∷ []) 0 i hi, getD-append-left trail (kind ∷ []) 0 j hj) at e)
-            | inr hj ↦
-                let ej : length trail ≡ j = omega arith in
-                let same : getD trail i 0 ≡ kind = rw (getD-append-left trail (kind ∷ []) 0 i hi, getD-push trail kind 0 j ej) at e in
-                let one = t .marked i hi in
-                let none = a .free in
-                let eq = ap (λ x. getD bytes (placeOf (now (st .kinds)) x) 0) same in
-                omega arith
-          ];
+            let hi : i < length trail = omega arith in
+            elim (cases-lt j (length trail)) [
+              | inl hj ↦ t .apart i j lt hj (rw (getD-append-left trail (kind ∷ []) 0 i hi, getD-append-left trail (kind ∷ []) 0 j hj) at e)
+              | inr hj ↦
+                  let ej : length trail ≡ j = omega arith in
+                  let same : getD trail i 0 ≡ kind = rw (getD-append-left trail (kind ∷ []) 0 i hi, getD-push trail kind 0 j ej) at e in
+                  let one = t .marked i hi in
+                  let none = a .free in
+                  let eq = ap (λ x. getD bytes (placeOf (now (st .kinds)) x) 0) same in
+                  omega arith
+            ];
         lines = λ i lt.
-          let hi : i < length trail = omega arith in
-          elim (cases-lt (i + 1) (length trail)) [
-            | inl hj ↦ rw (getD-append-left trail (kind ∷ []) 0 i hi, getD-append-left trail (kind ∷ []) 0 (i + 1) hj) (t .lines i hj)
-            | inr hj ↦
-                let ej : length trail ≡ i + 1 = omega arith in
-                rw (getD-append-left trail (kind ∷ []) 0 i hi, getD-push trail kind 0 (i + 1) ej) (a .link i (sym ej))
-          ];
+            let hi : i < length trail = omega arith in
+            elim (cases-lt (i + 1) (length trail)) [
+              | inl hj ↦ rw (getD-append-left trail (kind ∷ []) 0 i hi, getD-append-left trail (kind ∷ []) 0 (i + 1) hj) (t .lines i hj)
+              | inr hj ↦
+                  let ej : length trail ≡ i + 1 = omega arith in
+                  rw (getD-append-left trail (kind ∷ []) 0 i hi, getD-push trail kind 0 (i + 1) ej) (a .link i (sym ej))
+            ];
         marked = each-push (λ x. getD (set bytes at 1) (placeOf (now (st .kinds)) x) 0 ≡ 1) trail kind
             (λ i h. marked-set bytes at (placeOf (now (st .kinds)) (getD trail i 0)) inside (t .marked i h))
             (getD-set-same bytes at 1 0 inside);
         only = λ p lt.
-          elim (cases-eq p at) [
-            | inl e ↦ inr (stands-append p met (at ∷ []) ∙ or-right (stands p met) (stands p (at ∷ [])) (or-left (eqb at p) false (eq-eqb at p (sym e))))
-            | inr ne ↦
-                let short : p < length bytes = simp length-set at lt in
-                elim (t .only p short) [
-                  | inl z ↦ inl (getD-set-other bytes at p 1 0 ne ∙ z)
-                  | inr s ↦ inr (stands-append p met (at ∷ []) ∙ or-left (stands p met) (stands p (at ∷ [])) s)
-                ]
-          ];
+            elim (cases-eq p at) [
+              | inl e ↦ inr (stands-append p met (at ∷ []) ∙ or-right (stands p met) (stands p (at ∷ [])) (or-left (eqb at p) false (eq-eqb at p (sym e))))
+              | inr ne ↦
+                  let short : p < length bytes = simp length-set at lt in
+                  elim (t .only p short) [
+                    | inl z ↦ inl (getD-set-other bytes at p 1 0 ne ∙ z)
+                    | inr s ↦ inr (stands-append p met (at ∷ []) ∙ or-left (stands p met) (stands p (at ∷ [])) s)
+                  ]
+            ];
         long = length-set bytes at 1 ∙ t .long;
         few = let z = room-left top bytes met trail kind t a .1 in omega (arith, t .few);
       }
@@ -182,36 +182,36 @@ module _ (st : Standing) where
       let n : length met ≡ length xs = rw (t .places) (length-map xs (placeOf ks)) in
       let last : getD xs (length trail) 0 ≡ kind = getD-push trail kind 0 (length trail) refl in
       let found : (s : ℕ) → s < length met → getD met s 0 ≡ placeOf ks next → getD xs s 0 ≡ next =
-          λ s lt e.
-            let hs : s < length xs = omega arith in
-            let there : placeOf ks (getD xs s 0) ≡ placeOf ks next =
-                sym (getD-map (placeOf ks) xs s 0 0 hs) ∙ sym (ap (λ ys. getD ys s 0) (t .places)) ∙ e in
-            same-kind (getD xs s 0) next (t .standing s hs) (q .1) there in
+      λ s lt e.
+      let hs : s < length xs = omega arith in
+      let there : placeOf ks (getD xs s 0) ≡ placeOf ks next =
+      sym (getD-map (placeOf ks) xs s 0 0 hs) ∙ sym (ap (λ ys. getD ys s 0) (t .places)) ∙ e in
+      same-kind (getD xs s 0) next (t .standing s hs) (q .1) there in
       record {
         trail = xs;
         standing = t .standing;
         places = t .places;
         again = elim (t .only (placeOf ks next) (omega (arith, t .long))) [ inl z ↦ absurd (set-there z) | inr s ↦ s ];
         ring = λ s lt e.
-          let start = found s lt e in
-          let size = length-drop s xs in
-          let two : s < length trail = elim (cases-lt s (length trail)) [
-            | inl hs ↦ hs
-            | inr hs ↦
-                let es : length trail ≡ s = omega arith in
-                absurd (q .2 (sym (getD-push trail kind 0 s es) ∙ start))
-          ] in
-          record {
-            two = omega arith;
-            different = λ i j l hj same. t .apart (s + i) (s + j) (omega arith) (omega arith) (rw (getD-drop s xs i 0, getD-drop s xs j 0) at same);
-            next = λ i l.
-              let assoc : s + (i + 1) ≡ (s + i) + 1 = omega arith in
-              rw (getD-drop s xs i 0, getD-drop s xs (i + 1) 0, assoc) (t .lines (s + i) (omega arith));
-            round =
-              let end : s + (length (drop s xs) - 1) ≡ length trail = omega arith in
-              let none : s + 0 ≡ s = omega arith in
-              rw (getD-drop s xs (length (drop s xs) - 1) 0, getD-drop s xs 0 0, end, none, last, start) h;
-          };
+            let start = found s lt e in
+            let size = length-drop s xs in
+            let two : s < length trail = elim (cases-lt s (length trail)) [
+              | inl hs ↦ hs
+              | inr hs ↦
+                  let es : length trail ≡ s = omega arith in
+                  absurd (q .2 (sym (getD-push trail kind 0 s es) ∙ start))
+            ] in
+            record {
+              two = omega arith;
+              different = λ i j l hj same. t .apart (s + i) (s + j) (omega arith) (omega arith) (rw (getD-drop s xs i 0, getD-drop s xs j 0) at same);
+              next = λ i l.
+                  let assoc : s + (i + 1) ≡ (s + i) + 1 = omega arith in
+                  rw (getD-drop s xs i 0, getD-drop s xs (i + 1) 0, assoc) (t .lines (s + i) (omega arith));
+              round =
+                  let end : s + (length (drop s xs) - 1) ≡ length trail = omega arith in
+                  let none : s + 0 ≡ s = omega arith in
+                  rw (getD-drop s xs (length (drop s xs) - 1) 0, getD-drop s xs 0 0, end, none, last, start) h;
+            };
       }
 
   -- before the walk nothing is met, and nothing marked

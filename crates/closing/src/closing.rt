@@ -25,7 +25,14 @@ use words::ListFault;
 use words::need;
 
 // Refuses a row of too few places, and lists that are too short.
-fn check_lists(w: usize, places: usize, table: usize, marks: usize, walk: usize, ring: usize) -> Result<(), ListFault>
+fn check_lists(
+    w: usize,
+    places: usize,
+    table: usize,
+    marks: usize,
+    walk: usize,
+    ring: usize,
+) -> Result<(), ListFault>
     requires { ⌜ w ≤ 512 ⌝ }
     ensures { λ r. ⌜ Says listTold r (firstOf (listRefusal places w ∷ listRefusal table w ∷ listRefusal marks w ∷ listRefusal walk w ∷ listRefusal ring (w + 1) ∷ [])) ⌝ }
 {
@@ -47,7 +54,13 @@ fn fill_descents<C: Code + Drop>(standing: &Standing<'_>, table: &mut [C::Row])
 }
 
 // Fills the table, or tells a ring and empties the table; says whether there is a ring.
-fn settle<C: Code + Drop>(standing: &Standing<'_>, table: &mut [C::Row], marks: &mut [u8], walk: &mut [usize], ring: &mut [u32]) -> bool
+fn settle<C: Code + Drop>(
+    standing: &Standing<'_>,
+    table: &mut [C::Row],
+    marks: &mut [u8],
+    walk: &mut [usize],
+    ring: &mut [u32],
+) -> bool
     requires { ⌜ now standing .width ≤ length (now table) ⌝ ∗ ⌜ now standing .width ≤ C·Truth .sort .width ⌝ }
     requires { ⌜ now standing .width ≤ length (now marks) ⌝ ∗ ⌜ now standing .width ≤ length (now walk) ⌝ ∗ ⌜ now standing .width < length (now ring) ⌝ }
     ensures ringed { λ r. ⌜ r ≡ ringed (now (now (standing .entry) .lines)) ⌝ }
@@ -65,11 +78,24 @@ fn settle<C: Code + Drop>(standing: &Standing<'_>, table: &mut [C::Row], marks: 
 }
 
 // Fills the table with the descents of what stands; where some kind leads up to itself, empties it and tells a ring instead.
-pub fn close<C: Code + Drop>(standing: &Standing<'_>, table: &mut [C::Row], marks: &mut [u8], walk: &mut [usize], ring: &mut [u32]) -> Result<(), ClosingFault>
+pub fn close<C: Code + Drop>(
+    standing: &Standing<'_>,
+    table: &mut [C::Row],
+    marks: &mut [u8],
+    walk: &mut [usize],
+    ring: &mut [u32],
+) -> Result<(), ClosingFault>
     ensures told { λ r. ⌜ Says closingTold r (closingRefusal (now (standing .entry) .width) (C·Truth .sort .width) (now (now (standing .entry) .lines)) (lent (now (table .entry)) (now (marks .entry)) (now (walk .entry)) (now (ring .entry)))) ⌝ }
     ensures left { λ r. ⌜ Closes (C·Truth .sort) (now (standing .entry) .width) (now (now (standing .entry) .kinds)) (now (now (standing .entry) .lines)) (lent (now (table .entry)) (now (marks .entry)) (now (walk .entry)) (now (ring .entry))) (lent (now (table .exit)) (now (marks .exit)) (now (walk .exit)) (now (ring .exit))) r ⌝ }
 {
-    check_lists(standing.width, C::places(), table.len(), marks.len(), walk.len(), ring.len())?;
+    check_lists(
+        standing.width,
+        C::places(),
+        table.len(),
+        marks.len(),
+        walk.len(),
+        ring.len(),
+    )?;
     if settle::<C>(standing, table, marks, walk, ring) {
         return Err(ClosingFault::Ring);
     }

@@ -28,7 +28,11 @@ fn ring_line<C: Code + Drop>(standing: &Standing<'_>, table: &[C::Row]) -> Optio
     ensures { λ r. ⌜ BySome r (ringed (now (now (standing .entry) .lines)) ≡ false) (λ k. LeadsUp (now (now (standing .entry) .lines)) k k) ⌝ }
 {
     for line in standing.lines {
-        if has::<C>(table, place_of(standing, line.child), place_of(standing, line.parent)) {
+        if has::<C>(
+            table,
+            place_of(standing, line.child),
+            place_of(standing, line.parent),
+        ) {
             return Some(line.child);
         }
     }
@@ -36,7 +40,12 @@ fn ring_line<C: Code + Drop>(standing: &Standing<'_>, table: &[C::Row]) -> Optio
 }
 
 // A parent of the kind that the row at place `top` has.
-fn parent<C: Code + Drop>(standing: &Standing<'_>, table: &[C::Row], top: usize, kind: u32) -> Option<u32>
+fn parent<C: Code + Drop>(
+    standing: &Standing<'_>,
+    table: &[C::Row],
+    top: usize,
+    kind: u32,
+) -> Option<u32>
     requires { ⌜ top < now standing .width ⌝ ∗ ⌜ now standing .width ≤ length (now table) ⌝ ∗ ⌜ now standing .width ≤ C·Truth .sort .width ⌝ }
     ensures { λ r. ⌜ BySome r ((p : ℕ) → hasLine kind p (now (now (standing .entry) .lines)) ≡ true → cell (setsOf (C·Truth .sort) (now (table .entry))) top (placeOf (now (now (standing .entry) .kinds)) p) ≡ false) (λ p. (hasLine kind p (now (now (standing .entry) .lines)) ≡ true) × (cell (setsOf (C·Truth .sort) (now (table .entry))) top (placeOf (now (now (standing .entry) .kinds)) p) ≡ true)) ⌝ }
 {
@@ -53,7 +62,13 @@ fn parent<C: Code + Drop>(standing: &Standing<'_>, table: &[C::Row], top: usize,
 }
 
 // Goes up from the kind `top`, which leads up to itself, until a marked kind is met; the places met lie on the stack.
-fn climb<C: Code + Drop>(standing: &Standing<'_>, table: &[C::Row], marks: &mut Marks<'_>, stack: &mut Stack<'_, usize>, top: u32) -> usize
+fn climb<C: Code + Drop>(
+    standing: &Standing<'_>,
+    table: &[C::Row],
+    marks: &mut Marks<'_>,
+    stack: &mut Stack<'_, usize>,
+    top: u32,
+) -> usize
     requires { ⌜ now standing .width ≤ length (now table) ⌝ ∗ ⌜ now standing .width ≤ C·Truth .sort .width ⌝ ∗ ⌜ Filled (now standing .width) (serialsOf (now (now standing .kinds))) (placesOf (now (now standing .kinds))) (now (now standing .lines)) (setsOf (C·Truth .sort) (now table)) ⌝ }
     requires { ⌜ LeadsUp (now (now standing .lines)) top top ⌝ ∗ ⌜ now (now marks .bytes) ≡ replicate (now standing .width) 0 ⌝ ∗ ⌜ held (now stack) ≡ [] ⌝ ∗ ⌜ room (now stack) ≡ now standing .width ⌝ }
     ensures looped { λ r. ⌜ Looped (now (now (standing .entry) .kinds)) (now (now (standing .entry) .lines)) (held (now (stack .exit))) r ⌝ }
@@ -78,7 +93,12 @@ fn climb<C: Code + Drop>(standing: &Standing<'_>, table: &[C::Row], marks: &mut 
 }
 
 // The place that a walk met twice and how many places it met, where the table shows a ring; every mark is zero afterwards.
-pub(crate) fn find_ring<C: Code + Drop>(standing: &Standing<'_>, table: &[C::Row], marks: &mut [u8], walk: &mut [usize]) -> Option<(usize, usize)>
+pub(crate) fn find_ring<C: Code + Drop>(
+    standing: &Standing<'_>,
+    table: &[C::Row],
+    marks: &mut [u8],
+    walk: &mut [usize],
+) -> Option<(usize, usize)>
     requires { ⌜ now standing .width ≤ length (now table) ⌝ ∗ ⌜ now standing .width ≤ C·Truth .sort .width ⌝ ∗ ⌜ Filled (now standing .width) (serialsOf (now (now standing .kinds))) (placesOf (now (now standing .kinds))) (now (now standing .lines)) (setsOf (C·Truth .sort) (now table)) ⌝ }
     requires { ⌜ length (now marks) ≡ now standing .width ⌝ ∗ ⌜ length (now walk) ≡ now standing .width ⌝ }
     ensures found { λ r. ⌜ BySome r (ringed (now (now (standing .entry) .lines)) ≡ false) (λ f. (f .1 ≤ now (standing .entry) .width) × ((met : List ℕ) × (take (f .1) (now (walk .exit)) ≡ met) × Looped (now (now (standing .entry) .kinds)) (now (now (standing .entry) .lines)) met (f .0))) ⌝ }

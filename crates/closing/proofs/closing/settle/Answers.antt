@@ -11,9 +11,10 @@ use Rattle.closing.proofs.closing.settle.Needs as need
 
 pub find-ring-requires : need.find-ring-requires
 find-ring-requires g c κs =
-    let w = c .args .standing .now .width in
-    ((omega arith, (c .pre .0 .1, c .fill-descents .ensures .filled)),
-    (part-long (c .args .marks .now) w (c .pre .1 .0), part-long (c .args .walk .now) w (c .pre .1 .1 .0)))
+    let w = c .args .standing .now .width in (
+      (omega arith, (c .pre .0 .1, c .fill-descents .ensures .filled)),
+      (part-long (c .args .marks .now) w (c .pre .1 .0), part-long (c .args .walk .now) w (c .pre .1 .1 .0)),
+    )
 
 pub position-start-requires : need.position-start-requires
 position-start-requires g c κs =
@@ -39,7 +40,7 @@ write-ring-requires g c κs =
     let lt : start < length met = rw front at (c .position-start .ensures .0) in
     let size : length met ≡ c .in-Some .met = sym (ap length (f .1 .1)) ∙ length-take-le (c .in-Some .met) ys within in
     let middle : take (c .in-Some .met - start) (drop start (ys ++ post)) ≡ drop start met =
-        part-middle ys post start (c .in-Some .met) (omega arith) within ∙ ap (drop start) (f .1 .1) in
+    part-middle ys post start (c .in-Some .met) (omega arith) within ∙ ap (drop start) (f .1 .1) in
     let short = ap length middle ∙ length-drop start met in
     (omega (arith, f .0), omega (arith, f .0, st .wide .1))
 
@@ -76,7 +77,7 @@ returns g c =
     let lt : start < length met = rw front at (c .position-start .ensures .0) in
     let size : length met ≡ c .in-Some .met = sym (ap length (f .1 .1)) ∙ length-take-le (c .in-Some .met) ys within in
     let middle : take (c .in-Some .met - start) (drop start (ys ++ post)) ≡ drop start met =
-        part-middle ys post start (c .in-Some .met) (omega arith) within ∙ ap (drop start) (f .1 .1) in
+    part-middle ys post start (c .in-Some .met) (omega arith) within ∙ ap (drop start) (f .1 .1) in
     let here : getD met start 0 ≡ c .in-Some .at = rw front at (c .position-start .ensures .1) in
     let clear = c .in-Some .ensures tt .clear in
     record {

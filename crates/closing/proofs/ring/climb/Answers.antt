@@ -73,7 +73,7 @@ is-set-requires g c κs =
     let there = joining-line (serialsOf (now (st .kinds))) (now (st .lines)) (st .joins) (c .loop-next .kind) (c .in-Some .next) (c .in-Some .ensures tt .0) .1 in
     let low = place-below st (c .in-Some .next) there in
     let same : length (now (c .set .last .self .bytes)) ≡ length (now (c .loop-next .marks .bytes)) =
-        ap length (c .set .ensures .after) ∙ length-set (now (c .loop-next .marks .bytes)) (c .place-of-place .result) 1 in
+    ap length (c .set .ensures .after) ∙ length-set (now (c .loop-next .marks .bytes)) (c .place-of-place .result) 1 in
     omega (arith, i .1 .long, c .place-of-above .ensures)
 
 pub loop-next-holds : need.loop-next-holds
@@ -91,9 +91,9 @@ loop-next-again g c =
     let room-here = room-left st (c .args .top) bytes met (i .0) (l .kind) (i .1) (i .2) .0 in
     let slots = l .inv .1 .1 in
     let made = pushed (c .push .result) (held (c .push .last .self) ≡ met ++ c .place-of-place .result ∷ [])
-        ((length met ≡ room (l .stack)) × (c .push .last .self ≡ l .stack)) (c .push .ensures .cases) (λ full. omega (arith, full .0, c .pre .1 .1 .1 .1)) in
+    ((length met ≡ room (l .stack)) × (c .push .last .self ≡ l .stack)) (c .push .ensures .cases) (λ full. omega (arith, full .0, c .pre .1 .1 .1 .1)) in
     let turn = visited st (c .args .top) bytes met (i .0) (l .kind) (c .place-of-place .result) (now (c .set .last .self .bytes)) (held (c .push .last .self))
-        (i .1) (i .2) (c .place-of-place .ensures) (c .set .ensures .after) made in
+    (i .1) (i .2) (c .place-of-place .ensures) (c .set .ensures .after) made in
     let ls = now (st .lines) in
     let rows = setsOf (g .C·Truth .sort) (c .args .table .now) in
     let next = c .in-Some .next in
@@ -101,14 +101,15 @@ loop-next-again g c =
     let there = joining-line (serialsOf (now (st .kinds))) ls (st .joins) (l .kind) next (up .0) .1 in
     let top = leader-stands st (c .args .top) (c .args .top) (c .pre .1 .0) in
     let d = descends-decided ls next (c .args .top) .0
-        (sym (filled-at st rows (c .pre .0 .1 .1) (c .args .top) next top there) ∙ (rw (c .place-of-peak .ensures) at (up .1))) in
+    (sym (filled-at st rows (c .pre .0 .1 .1) (c .args .top) next top there) ∙ (rw (c .place-of-peak .ensures) at (up .1))) in
     let unmarked : getD (now (c .set .last .self .bytes)) (placeOf (now (st .kinds)) next) 0 ≡ 0 =
-        rw (c .place-of-above .ensures) at
-        (eqb-true (getD (now (c .set .last .self .bytes)) (c .place-of-above .result) 0) 0
-        (not-false (eqb (getD (now (c .set .last .self .bytes)) (c .place-of-above .result) 0) 0) (sym (c .is-set .ensures) ∙ c .if-is-set .left))) in
-    ((i .0 ++ l .kind ∷ [], turn .0, goes-on st (c .args .top) (now (c .set .last .self .bytes)) (i .0) (l .kind) next (up .0) d (turn .1) unmarked),
-    (c .push .ensures .slots .0 ∙ l .inv .1 .0, c .push .ensures .slots .1 ∙ l .inv .1 .1),
-    c .set .ensures .lender ∙ l .inv .2)
+    rw (c .place-of-above .ensures) at
+    (eqb-true (getD (now (c .set .last .self .bytes)) (c .place-of-above .result) 0) 0
+    (not-false (eqb (getD (now (c .set .last .self .bytes)) (c .place-of-above .result) 0) 0) (sym (c .is-set .ensures) ∙ c .if-is-set .left))) in (
+      (i .0 ++ l .kind ∷ [], turn .0, goes-on st (c .args .top) (now (c .set .last .self .bytes)) (i .0) (l .kind) next (up .0) d (turn .1) unmarked),
+      (c .push .ensures .slots .0 ∙ l .inv .1 .0, c .push .ensures .slots .1 ∙ l .inv .1 .1),
+      c .set .ensures .lender ∙ l .inv .2,
+    )
 
 pub loop-next-less : need.loop-next-less
 loop-next-less g c =
@@ -120,9 +121,9 @@ loop-next-less g c =
     let room-here = room-left st (c .args .top) bytes met (i .0) (l .kind) (i .1) (i .2) .0 in
     let slots = l .inv .1 .1 in
     let made = pushed (c .push .result) (held (c .push .last .self) ≡ met ++ c .place-of-place .result ∷ [])
-        ((length met ≡ room (l .stack)) × (c .push .last .self ≡ l .stack)) (c .push .ensures .cases) (λ full. omega (arith, full .0, c .pre .1 .1 .1 .1)) in
+    ((length met ≡ room (l .stack)) × (c .push .last .self ≡ l .stack)) (c .push .ensures .cases) (λ full. omega (arith, full .0, c .pre .1 .1 .1 .1)) in
     let turn = visited st (c .args .top) bytes met (i .0) (l .kind) (c .place-of-place .result) (now (c .set .last .self .bytes)) (held (c .push .last .self))
-        (i .1) (i .2) (c .place-of-place .ensures) (c .set .ensures .after) made in
+    (i .1) (i .2) (c .place-of-place .ensures) (c .set .ensures .after) made in
     omega (arith, turn .2)
 
 pub returns-then-is-set : need.returns-then-is-set
@@ -135,16 +136,16 @@ returns-then-is-set g c =
     let room-here = room-left st (c .args .top) bytes met (i .0) (l .kind) (i .1) (i .2) .0 in
     let slots = l .inv .1 .1 in
     let made = pushed (c .push .result) (held (c .push .last .self) ≡ met ++ c .place-of-place .result ∷ [])
-        ((length met ≡ room (l .stack)) × (c .push .last .self ≡ l .stack)) (c .push .ensures .cases) (λ full. omega (arith, full .0, c .pre .1 .1 .1 .1)) in
+    ((length met ≡ room (l .stack)) × (c .push .last .self ≡ l .stack)) (c .push .ensures .cases) (λ full. omega (arith, full .0, c .pre .1 .1 .1 .1)) in
     let turn = visited st (c .args .top) bytes met (i .0) (l .kind) (c .place-of-place .result) (now (c .set .last .self .bytes)) (held (c .push .last .self))
-        (i .1) (i .2) (c .place-of-place .ensures) (c .set .ensures .after) made in
+    (i .1) (i .2) (c .place-of-place .ensures) (c .set .ensures .after) made in
     let next = c .in-Some .next in
     let up = c .in-Some .ensures tt in
     let there : getD (now (c .set .last .self .bytes)) (placeOf (now (st .kinds)) next) 0 ≡ 0 → ⊥ =
-        λ e.
-          eqb-false (getD (now (c .set .last .self .bytes)) (c .place-of-above .result) 0) 0
-          (not-true (eqb (getD (now (c .set .last .self .bytes)) (c .place-of-above .result) 0) 0) (sym (c .is-set .ensures) ∙ c .if-is-set .taken))
-          (rw (c .place-of-above .ensures) e) in
+    λ e.
+    eqb-false (getD (now (c .set .last .self .bytes)) (c .place-of-above .result) 0) 0
+    (not-true (eqb (getD (now (c .set .last .self .bytes)) (c .place-of-above .result) 0) 0) (sym (c .is-set .ensures) ∙ c .if-is-set .taken))
+    (rw (c .place-of-above .ensures) e) in
     let start = setting-out st (c .args .top) (now (c .args .marks .now .bytes)) (held (c .args .stack .now)) (c .pre .1 .0) (c .pre .1 .1 .0) (c .pre .1 .1 .1 .0) in
     record {
       looped = rw (c .place-of-above .ensures) (closes st (now (c .set .last .self .bytes)) (held (c .push .last .self)) (i .0) (l .kind) next (turn .0) (up .0) there);

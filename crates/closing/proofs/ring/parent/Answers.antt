@@ -22,9 +22,9 @@ loop-n-holds g c =
     let long = length-map (now (st .lines)) (λ l. l .child) in
     let within = cut .within in
     λ m lt e.
-      let low = cut .before m lt in
-      let at = children-at st m (omega arith) in
-      absurd (omega arith)
+    let low = cut .before m lt in
+    let at = children-at st m (omega arith) in
+    absurd (omega arith)
 
 pub returns-then-line-kind : need.returns-then-line-kind
 returns-then-line-kind g c =
@@ -37,9 +37,9 @@ returns-then-line-kind g c =
     let other = c .if-line-kind .taken in
     parents-fail st (c .args .kind) n (λ p. cell rows (c .args .top) (placeOf (now (st .kinds)) p)) (c .loop-n .inv)
     (λ m le lt e.
-      let up = children-rise st n m le lt in
-      let at = children-at st m lt in
-      other (omega arith))
+    let up = children-rise st n m le lt in
+    let at = children-at st m lt in
+    other (omega arith))
 
 pub place-of-requires : need.place-of-requires
 place-of-requires g c κs = line-ends (c .args .standing .now) (c .loop-n .n) (c .loop-n-test .taken) .1
@@ -55,9 +55,10 @@ pub returns-then-has : need.returns-then-has
 returns-then-has g c =
     let st = c .args .standing .now in
     let ls = now (st .lines) in
-    let l = lineAt ls (c .loop-n .n) in
-    (line-found (c .args .kind) (l .parent) ls (c .loop-n .n) (record { child = 0; parent = 0 }) (c .loop-n-test .taken) (c .if-line-kind .left) refl,
-    rw (c .place-of .ensures) at (sym (c .has .ensures) ∙ c .if-has .taken))
+    let l = lineAt ls (c .loop-n .n) in (
+      line-found (c .args .kind) (l .parent) ls (c .loop-n .n) (record { child = 0; parent = 0 }) (c .loop-n-test .taken) (c .if-line-kind .left) refl,
+      rw (c .place-of .ensures) at (sym (c .has .ensures) ∙ c .if-has .taken),
+    )
 
 pub returns : need.returns
 returns g c =

@@ -26,7 +26,6 @@ has-requires g c κs =
     let low = place-below st (l .child) (ends .0) in
     (omega arith, omega arith)
 
-
 pub returns-then-has : need.returns-then-has
 returns-then-has g c =
     let st = c .args .standing .now in
@@ -34,7 +33,7 @@ returns-then-has g c =
     let n = c .loop-line .line-index in
     let l = lineAt ls n in
     let d = line-tells st (setsOf (g .C·Truth .sort) (c .args .table .now)) (c .pre .1 .1) n (c .place-of .result) (c .place-of-in-loop-line .result) true
-        (c .loop-line-test .taken) (c .place-of .ensures) (c .place-of-in-loop-line .ensures) (sym (c .has .ensures) ∙ c .if-has .taken) in
+    (c .loop-line-test .taken) (c .place-of .ensures) (c .place-of-in-loop-line .ensures) (sym (c .has .ensures) ∙ c .if-has .taken) in
     leads-from (line-at ls n (record { child = 0; parent = 0 }) (c .loop-line-test .taken))
     (descends-decided ls (l .parent) (l .child) .0 d)
 

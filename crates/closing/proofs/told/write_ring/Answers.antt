@@ -35,11 +35,11 @@ loop-i-again c =
     let inside : i < length places = c .loop-i-test .taken in
     let p = getD places i 0 in
     let e : word ≡ f p =
-        c .make-word-in-loop-i .ensures
-        ∙ ap (λ s. wordOf Name (lowBits s)) (c .serial-at .ensures)
-        ∙ ap (wordOf Name) (low-bits-same (serialAt (now (st .kinds)) p) (serial-at-low st p)) in
+    c .make-word-in-loop-i .ensures
+    ∙ ap (λ s. wordOf Name (lowBits s)) (c .serial-at .ensures)
+    ∙ ap (wordOf Name) (low-bits-same (serialAt (now (st .kinds)) p) (serial-at-low st p)) in
     let size : length xs ≡ i + 1 =
-        let a = length-map (take i places) f in let b = length-take-le i places (omega arith) in omega arith in
+    let a = length-map (take i places) f in let b = length-take-le i places (omega arith) in omega arith in
     let room : i + 1 < length ring = simp length-set (omega arith) in
     ap (λ ys. set ys (i + 1) word) (c .loop-i .inv)
     ∙ write-more xs ring (i + 1) word size room
