@@ -1,0 +1,15 @@
+pub mod Digits
+pub mod WordRows
+pub mod OneBits
+pub mod Rising
+pub mod Parity
+pub mod Filling
+pub mod Found
+pub mod RowRule
+pub mod OnePackets
+pub mod Splice
+pub mod Runs
+pub mod Turn
+pub mod Walk
+pub mod Pairs
+pub mod Scan
