@@ -1,0 +1,4 @@
+pub mod Seen
+pub mod Table
+pub mod Steps
+pub mod Runs
