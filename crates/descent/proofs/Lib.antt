@@ -3,3 +3,4 @@ pub mod Descent
 pub mod Rings
 pub mod Coverage
 pub mod Closure
+pub mod Proper
