@@ -5,3 +5,4 @@ pub mod Formats
 pub mod Ledger
 pub mod View
 pub mod SetUp
+pub mod Table
