@@ -8,18 +8,22 @@ ghost use Rattle.std.specs.Vec.{made};
 ghost use Rattle.words.specs.Refusals.{Says, questionTold, firstOf, listRefusal};
 ghost use Rattle.questions.specs.Questions.{questionRefusal, countRefusal, valueOf};
 ghost use Rattle.questions.specs.Entries.{LeftAlone};
-use codes::Truth;
-use stack::Stack;
 use super::checks::MAX_ENTRIES;
 use super::count::check_count;
 use super::lent::Reader;
 use super::names::Names;
 use super::step::step;
+use codes::Truth;
+use stack::Stack;
 use words::QuestionFault;
 use words::QuestionFromList;
 
 // Carries out every word, from an empty stack on.
-fn run<T: Truth + Drop, N: Names<T>>(words: &[u32], names: &N, stack: &mut Stack<'_, T::Row>) -> Result<(), QuestionFault>
+fn run<T: Truth + Drop, N: Names<T>>(
+    words: &[u32],
+    names: &N,
+    stack: &mut Stack<'_, T::Row>,
+) -> Result<(), QuestionFault>
     requires empty { ⌜ held (now stack) ≡ [] ⌝ }
     requires room { ⌜ room (now stack) ≡ 32 ⌝ }
     ensures refused { λ r. ⌜ Says questionTold r (questionRefusal (N·Names .standing (now (names .entry))) (now (words .entry))) ⌝ }
@@ -36,14 +40,31 @@ fn run<T: Truth + Drop, N: Names<T>>(words: &[u32], names: &N, stack: &mut Stack
     Ok(())
 }
 
+// Leaves the question's value in the first of the slots that it works in.
+fn work<T: Truth + Drop, N: Names<T>>(
+    words: &[u32],
+    names: &N,
+    slots: &mut [T::Row],
+) -> Result<(), QuestionFault>
+    requires { ⌜ length (now slots) ≡ 32 ⌝ }
+    ensures refused { λ r. ⌜ Says questionTold r (questionRefusal (N·Names .standing (now (names .entry))) (now (words .entry))) ⌝ }
+    ensures value { λ r. ⌜ made r (λ _. (d : T·Row) → Agree (T·Truth .sort .width) (T·Truth .sort .reads (getD (now (slots .exit)) 0 d)) (valueOf (N·Names .named (now (names .entry))) (N·Names .whole (now (names .entry))) (now (words .entry)))) ⌝ }
+{
+    let mut stack = Stack::new(slots);
+    run::<T, N>(words, names, &mut stack)
+}
+
 // Leaves the question's value in the first slot. The slots up to the most entries are worked in; the others stay.
-pub fn evaluate<T: Truth + Drop, N: Names<T>>(words: &[u32], names: &N, slots: &mut [T::Row]) -> Result<(), QuestionFault>
+pub fn evaluate<T: Truth + Drop, N: Names<T>>(
+    words: &[u32],
+    names: &N,
+    slots: &mut [T::Row],
+) -> Result<(), QuestionFault>
     ensures refused { λ r. ⌜ Says questionTold r (firstOf (listRefusal (length (now (slots .entry))) 32 ∷ countRefusal (now (words .entry)) ∷ questionRefusal (N·Names .standing (now (names .entry))) (now (words .entry)) ∷ [])) ⌝ }
     ensures value { λ r. ⌜ made r (λ _. (d : T·Row) → Agree (T·Truth .sort .width) (T·Truth .sort .reads (getD (now (slots .exit)) 0 d)) (valueOf (N·Names .named (now (names .entry))) (N·Names .whole (now (names .entry))) (now (words .entry)))) ⌝ }
     ensures beyond { λ _. ⌜ drop 32 (now (slots .exit)) ≡ drop 32 (now (slots .entry)) ⌝ }
 {
     words::need(slots.len(), MAX_ENTRIES)?;
     check_count(words)?;
-    let mut stack = Stack::new(&mut slots[0..MAX_ENTRIES]);
-    run::<T, N>(words, names, &mut stack)
+    work::<T, N>(words, names, &mut slots[0..MAX_ENTRIES])
 }
