@@ -8,7 +8,7 @@ use native.Mathlib.Omega.{arith}
 use lib.Dec.{eqb, ltb}
 use lib.ListN.{length, getD, take, drop, set}
 use Rattle.std.specs.shelf.Lists.{All, kept-by, paste}
-use Rattle.std.proofs.shelf.Edits.{paste-paste}
+use Rattle.std.proofs.shelf.Edits.{paste-paste, paste-all}
 use Rattle.std.proofs.shelf.Elements.{all-weaker, kept-by-more, kept-by-passes}
 use Rattle.std.proofs.shelf.Lists.{append-assoc, set-split, take-map, getD-map, map-append, map-push, length-map}
 use Rattle.std.proofs.shelf.Tests.{and-parts, and-from, or-cases, ltb-true, lt-ltb, eqb-true, cond-both, false≢true, cases-eq}
@@ -74,6 +74,13 @@ paste-one d s at n x e l within = set-paste (paste d at s n) (at + n) x l ∙ pa
   where
     set-paste : (ys : List ℕ) (i y : ℕ) → i < length ys → set ys i y ≡ paste ys i (y ∷ []) 1
     set-paste ys i y m = set-split ys i y m ∙ ap (λ (j : ℕ). take i ys ++ y ∷ drop j ys) (sym (add-one i)) ∙ sym (append-assoc (take i ys) (y ∷ []) (drop (i + 1) ys))
+
+-- a head written before names that stand behind its place
+pub headed : (old names : List ℕ) (n word : ℕ) → n ≡ length names → 1 ≤ length old → set (paste old 1 names n) 0 word ≡ word ∷ names ++ drop (suc n) old
+headed [] names n word e l = absurd (omega arith)
+headed (o ∷ old) names n word e l =
+    let k : 1 + n ≡ suc n = omega arith in
+    ap (λ (ys : List ℕ). set ys 0 word) (paste-all (o ∷ old) 1 names n e) ∙ ap (λ (m : ℕ). word ∷ names ++ drop m (o ∷ old)) k
 
 module _ (test : ℕ → Bool) (names : List ℕ) where
   pub kept-next : (i : ℕ) → i < length names → kept-by test (serialsIn (take (i + 1) names))

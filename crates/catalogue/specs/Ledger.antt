@@ -9,6 +9,10 @@ use Rattle.std.specs.declared.option.Option.the-variants.{Some, None}
 use Rattle.std.specs.shelf.Lists.{kept-by}
 use Rattle.descent.specs.declared.line.Line.{Line}
 use Rattle.descent.specs.Lines.{stands, hasLine, mentioned}
+use Rattle.descent.specs.Descent.{descends}
+use Rattle.descent.specs.Rings.{ringed}
+use Rattle.descent.specs.Coverage.{uppermost}
+use Rattle.questions.specs.Questions.{countRefusal, questionRefusal, valueOf}
 use Rattle.words.specs.declared.refusal.Refusal.{Refusal}
 use Rattle.words.specs.declared.refusal.Part.the-variants as part
 use Rattle.words.specs.Refusals.{refusal, refuseIf, firstOf, listRefusal, serialRefusal}
@@ -38,6 +42,12 @@ pub data Call : Type 0 where
   read-image : List ℕ → Call
   write-image : ℕ → Call
   recall : List ℕ → ℕ → Call
+  -- the lengths of the code table, the marks, the walk list and the ring list
+  close : ℕ → ℕ → ℕ → ℕ → Call
+  -- the question, and the lengths of the code table, the working values and the answer list
+  ask : List ℕ → ℕ → ℕ → ℕ → Call
+  -- the kind, the question, and the lengths of the code table and the working values
+  fit : ℕ → List ℕ → ℕ → ℕ → Call
 
 -- a kind that is handed in has to stand
 abbrev pub kindRefusal : Ledger → ℕ → Option Refusal
@@ -66,6 +76,29 @@ refused l (read-image ws) =
     firstOf (refuseIf (ltb 0 (length (l .kinds))) (refusal 18 0 part.Image) ∷ imageRefusal (l .wide) ws ∷ [])
 refused l (write-image room) = listRefusal room (imageLength (l .kinds) (l .lines))
 refused l (recall ws room) = firstOf (listRefusal room (l .wide + 1) ∷ answerRefusal ws ∷ [])
+refused l (close table marks walk ring) =
+    firstOf (listRefusal table (l .wide)
+    ∷ listRefusal marks (l .wide)
+    ∷ listRefusal walk (l .wide)
+    ∷ listRefusal ring (l .wide + 1)
+    ∷ refuseIf (ringed (l .lines)) (refusal 11 0 part.Closing)
+    ∷ [])
+refused l (ask ws table working answer) =
+    firstOf (listRefusal table (l .wide)
+    ∷ listRefusal answer (l .wide + 1)
+    ∷ listRefusal working 32
+    ∷ refuseIf (not (l .closed)) (refusal 12 0 part.Question)
+    ∷ countRefusal ws
+    ∷ questionRefusal (λ k. stands k (l .kinds)) ws
+    ∷ [])
+refused l (fit x ws table working) =
+    firstOf (listRefusal table (l .wide)
+    ∷ listRefusal working 32
+    ∷ refuseIf (not (l .closed)) (refusal 12 0 part.Question)
+    ∷ countRefusal ws
+    ∷ kindRefusal l x
+    ∷ questionRefusal (λ k. stands k (l .kinds)) ws
+    ∷ [])
 
 -- the same width, with these kinds and lines standing, and open
 abbrev pub opened : Ledger → List ℕ → List Line → Ledger
@@ -80,6 +113,9 @@ accepted l (withdraw-line c p) = opened l (l .kinds) (kept-by (λ m. not (eqb (m
 accepted l (read-image ws) = opened l (kindsIn ws) (linesIn ws)
 accepted l (write-image room) = l
 accepted l (recall ws room) = l
+accepted l (close table marks walk ring) = record { wide = l .wide; kinds = l .kinds; lines = l .lines; closed = true }
+accepted l (ask ws table working answer) = l
+accepted l (fit x ws table working) = l
 
 -- a refused call leaves the ledger as it was
 abbrev pub unless : Option Refusal → Ledger → Ledger → Ledger
@@ -92,3 +128,11 @@ after l call = unless (refused l call) (accepted l call) l
 -- of the kinds that an answer names, those that stand
 abbrev pub stillStanding : Ledger → List ℕ → List ℕ
 stillStanding l answer = kept-by (λ k. stands k (l .kinds)) (namedIn answer)
+
+-- the set of a question: a name means the kinds that descend from it, all the standing kinds
+abbrev pub setOf : Ledger → List ℕ → ℕ → Bool
+setOf l words kind = valueOf (λ k m. descends (l .lines) m k) (λ m. stands m (l .kinds)) words kind
+
+-- the kinds that answer a question: the uppermost of those whose whole descent the question covers
+abbrev pub answering : Ledger → List ℕ → List ℕ
+answering l words = kept-by (uppermost (l .kinds) (l .lines) (setOf l words)) (l .kinds)

@@ -6,3 +6,4 @@ pub mod Images
 pub mod Ledger
 pub mod View
 pub mod SetUp
+pub mod Table

@@ -1,6 +1,7 @@
 // A catalogue of kinds and lines: entering, withdrawing, its image, and recalling kept answers.
 mod enter;
 mod image;
+mod lookup;
 mod names;
 mod read_image;
 mod recall;

@@ -7,7 +7,6 @@ use native.Mathlib.Omega.{arith}
 use lib.ListN.{length, take, drop, set}
 use Rattle.std.specs.Of.Vec.{vec-items}
 use Rattle.std.specs.shelf.Lists.{kept-by, paste}
-use Rattle.std.proofs.shelf.Edits.{paste-all}
 use Rattle.std.proofs.shelf.Lists.{length-map, length-drop, take-all, take-rest}
 use Rattle.std.proofs.shelf.Tests.{ltb-false}
 use Rattle.descent.specs.Lines.{stands}
@@ -19,16 +18,9 @@ use Rattle.catalogue.specs.Formats.{serialsIn, namedIn, answerOf}
 use Rattle.catalogue.specs.View.{view}
 use Rattle.catalogue.proofs.AnswerChecks.{answer-passed}
 use Rattle.catalogue.proofs.Chain.{passes, last-check, not-refused}
-use Rattle.catalogue.proofs.Keeping.{kept-few}
+use Rattle.catalogue.proofs.Keeping.{kept-few, headed}
 use Rattle.catalogue.proofs.KindEdits.{places, seats-count}
 use Rattle.catalogue.proofs.state.Catalogue.recall.Needs as need
-
--- a head written before names that stand behind its place
-headed : (old names : List ℕ) (n word : ℕ) → n ≡ length names → 1 ≤ length old → set (paste old 1 names n) 0 word ≡ word ∷ names ++ drop (suc n) old
-headed [] names n word e l = absurd (omega arith)
-headed (o ∷ old) names n word e l =
-    let k : 1 + n ≡ suc n = omega arith in
-    ap (λ (ys : List ℕ). set ys 0 word) (paste-all (o ∷ old) 1 names n e) ∙ ap (λ (m : ℕ). word ∷ names ++ drop m (o ∷ old)) k
 
 pub write-standing-count-requires : need.write-standing-count-requires
 write-standing-count-requires c κs =
