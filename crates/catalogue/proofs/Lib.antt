@@ -8,3 +8,4 @@ pub mod LineEdits
 pub mod NameRuns
 pub mod Keeping
 pub mod AnswerChecks
+pub mod Writing

@@ -1,5 +1,6 @@
 // A catalogue of kinds and lines: entering, withdrawing, its image, and recalling kept answers.
 mod enter;
+mod image;
 mod names;
 mod recall;
 mod search;
