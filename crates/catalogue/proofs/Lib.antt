@@ -9,3 +9,6 @@ pub mod NameRuns
 pub mod Keeping
 pub mod AnswerChecks
 pub mod Writing
+pub mod ImageChecks
+pub mod ImagePassed
+pub mod Filling

@@ -7,7 +7,7 @@ use native.Mathlib.Omega.{arith}
 use lib.Dec.{eqb, ltb}
 use lib.ListN.{length, getD, take, drop}
 use Rattle.std.specs.Holes.{inserted, removed}
-use Rattle.std.proofs.shelf.Lists.{append-assoc, append-nil, length-append, take-append-drop, map-id}
+use Rattle.std.proofs.shelf.Lists.{append-assoc, append-nil, length-append, take-append-drop, take-all, drop-all, map-id}
 use Rattle.descent.specs.Proper.{below, distinct}
 use Rattle.catalogue.specs.Proper.{seated}
 use Rattle.std.specs.Iters.{counting}
@@ -32,6 +32,13 @@ seated-inserted w xs free free′ i p e h =
     ∙ ap (λ (ys : List ℕ). seated w (p ∷ ys)) (append-nil (xs ++ free′))) ∙ h in
     ap (seated w) (append-assoc (take i xs) (p ∷ drop i xs) free′) ∙ seated-middle w (take i xs) (drop i xs ++ free′) p
     ∙ ap (λ (ys : List ℕ). seated w (p ∷ ys)) (sym (append-assoc (take i xs) (drop i xs) free′) ∙ ap (λ (ys : List ℕ). ys ++ free′) (take-append-drop i xs)) ∙ front
+
+-- the last place moves to the kind that is put in behind the others
+pub seated-pushed : (w : ℕ) (xs free free′ : List ℕ) (p : ℕ) → free ≡ free′ ++ p ∷ [] → seated w (xs ++ free) ≡ true → seated w ((xs ++ p ∷ []) ++ free′) ≡ true
+seated-pushed w xs free free′ p e h =
+    let whole : take (length xs) xs ≡ xs = take-all (length xs) xs (omega arith) in
+    let none : drop (length xs) xs ≡ [] = drop-all (length xs) xs (omega arith) in
+    sym (ap₂ (λ (us vs : List ℕ). seated w ((us ++ p ∷ vs) ++ free′)) whole none) ∙ seated-inserted w xs free free′ (length xs) p e h
 
 -- the place of a kind that is taken out moves to the end
 pub seated-removed : (w : ℕ) (xs free free′ : List ℕ) (i p : ℕ) → i < length xs → getD xs i 0 ≡ p → free′ ≡ free ++ p ∷ [] → seated w (xs ++ free) ≡ true → seated w (removed xs i ++ free′) ≡ true

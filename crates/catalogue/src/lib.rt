@@ -2,6 +2,7 @@
 mod enter;
 mod image;
 mod names;
+mod read_image;
 mod recall;
 mod search;
 mod state;
