@@ -93,7 +93,7 @@ fn answers(rt: &LibcRuntime) -> io::Result<()> {
     for serial in [10, 20, 30] {
         let _ = catalogue.enter(serial);
     }
-    let mut list = [0; 4];
+    let mut list = vec![in rt.alloc(); 0; 4]?;
     for case in ANSWERS {
         let label = case.label;
         print!(rt, "{label}: ")?;
@@ -106,10 +106,16 @@ fn answers(rt: &LibcRuntime) -> io::Result<()> {
 
 // A kit never orders a kind that took a freed place.
 fn kit(rt: &LibcRuntime) -> io::Result<()> {
-    println!(rt, "-- a kit that outlives a kind, in a catalogue of one place")?;
+    println!(
+        rt,
+        "-- a kit that outlives a kind, in a catalogue of one place"
+    )?;
     let mut catalogue = set_up(rt.alloc(), 1)?;
-    let kept = [make_word(WordKind::AnswerHead, 1), make_word(WordKind::Name, 50)];
-    let mut list = [0; 2];
+    let kept = [
+        make_word(WordKind::AnswerHead, 1),
+        make_word(WordKind::Name, 50),
+    ];
+    let mut list = vec![in rt.alloc(); 0; 2]?;
     for one in [
         Step::Enter(50),
         Step::Withdraw(50),

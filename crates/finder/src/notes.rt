@@ -6,7 +6,8 @@ use terminal::write_decimal;
 use words::Refusal;
 use words::low_bits;
 
-const HELP: &[u8] = b"# one call a line; serials are decimal, words eight hexadecimal digits, fields apart by spaces
+const HELP: &[u8] =
+    b"# one call a line; serials are decimal, words eight hexadecimal digits, fields apart by spaces
 # enter SERIAL            enter a kind
 # withdraw SERIAL         withdraw a kind that no line has
 # line CHILD PARENT       enter a line: the child is a kind of the parent

@@ -77,12 +77,7 @@ impl Session {
     }
 
     // Reads an image file, and tells how much stands.
-    pub fn load(
-        &mut self,
-        rt: &LibcRuntime,
-        path: &str,
-        out: &mut Vec<u8>,
-    ) -> Result<(), Trouble> {
+    pub fn load(&mut self, rt: &LibcRuntime, path: &str, out: &mut Vec<u8>) -> Result<(), Trouble> {
         let words = load_words(rt, path)?;
         self.catalogue.read_image(&words)?;
         self.note_standing(out)?;
