@@ -27,7 +27,10 @@ pub fn save_words(rt: &LibcRuntime, path: &str, words: &[u32]) -> Result<(), Mis
     let bytes = encode(heap, words)?;
     let mut beside = String::from_str(heap, path)?;
     beside.push_str(".tmp")?;
-    if write_synced(rt, beside.as_str(), bytes.as_slice()).is_err()
+    let Ok(file) = File::create(rt, beside.as_str()) else {
+        return Err(Mistake::Unwritable);
+    };
+    if write_synced(file, bytes.as_slice()).is_err()
         || fs::rename(rt, beside.as_str(), path).is_err()
     {
         let _ = fs::remove_file(rt, beside.as_str());
@@ -36,9 +39,8 @@ pub fn save_words(rt: &LibcRuntime, path: &str, words: &[u32]) -> Result<(), Mis
     Ok(())
 }
 
-// Writes a file, and waits until the disk has it.
-fn write_synced(rt: &LibcRuntime, path: &str, bytes: &[u8]) -> io::Result<()> {
-    let mut file = File::create(rt, path)?;
+// Fills a file, and waits until the disk has it.
+fn write_synced(mut file: File, bytes: &[u8]) -> io::Result<()> {
     file.write_all(bytes)?;
     file.sync_all()
 }
