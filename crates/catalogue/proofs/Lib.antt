@@ -13,3 +13,4 @@ pub mod ImageChecks
 pub mod ImagePassed
 pub mod Filling
 pub mod ImageLaws
+pub mod ClosingMoves

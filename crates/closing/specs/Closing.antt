@@ -14,11 +14,9 @@ use Rattle.words.specs.declared.refusal.ClosingFault.the-variants as fault
 use Rattle.words.specs.Words.{wordOf}
 use Rattle.words.specs.Refusals.{refusal, firstOf, refuseIf, listRefusal}
 use Rattle.codes.specs.Sorts.{Sort}
-use Rattle.descent.specs.declared.kind.Kind.{Kind}
 use Rattle.descent.specs.declared.line.Line.{Line}
 use Rattle.descent.specs.Rings.{Ring, ringed}
 use Rattle.closing.specs.Tables.{setsOf, Empty, Filled}
-use Rattle.closing.specs.Direct.{serialsOf, placesOf}
 
 -- the lists lent to a closing
 pub record Lent (R : Type 0) : Type 0 where
@@ -46,9 +44,9 @@ pub record Kept {R : Type 0} (w : ℕ) (old new : Lent R) : Type 0 where
   pub steps : drop w (new .walk) ≡ drop w (old .walk)
 
 -- an accepted closing: the table is filled, and the ring list is as it was
-pub record Closed {S R : Type 0} (sort : Sort S R) (w : ℕ) (kinds : List Kind) (ls : List Line) (old new : Lent R) : Type 0 where
+pub record Closed {S R : Type 0} (sort : Sort S R) (w : ℕ) (serials places : List ℕ) (ls : List Line) (old new : Lent R) : Type 0 where
   pub kept : Kept w old new
-  pub filled : Filled w (serialsOf kinds) (placesOf kinds) ls (setsOf sort (new .table))
+  pub filled : Filled w serials places ls (setsOf sort (new .table))
   pub untold : new .ring ≡ old .ring
 
 -- a ring as words: a head with the number of kinds, then their names in order; later words are as they were
@@ -64,7 +62,7 @@ pub record Ringed {S R : Type 0} (sort : Sort S R) (w : ℕ) (ls : List Line) (o
   pub told : Told ls (old .ring) (new .ring)
 
 -- what a closing leaves, by its answer; where a list is too short it leaves everything as it was
-abbrev pub Closes : {S R : Type 0} → Sort S R → ℕ → List Kind → List Line → Lent R → Lent R → Result (Unit {0}) ClosingFault → Type 0
-Closes sort w kinds ls old new (Ok _) = Closed sort w kinds ls old new
-Closes sort w kinds ls old new (Err (fault.List _)) = new ≡ old
-Closes sort w kinds ls old new (Err fault.Ring) = Ringed sort w ls old new
+abbrev pub Closes : {S R : Type 0} → Sort S R → ℕ → List ℕ → List ℕ → List Line → Lent R → Lent R → Result (Unit {0}) ClosingFault → Type 0
+Closes sort w serials places ls old new (Ok _) = Closed sort w serials places ls old new
+Closes sort w serials places ls old new (Err (fault.List _)) = new ≡ old
+Closes sort w serials places ls old new (Err fault.Ring) = Ringed sort w ls old new

@@ -64,7 +64,7 @@ fn settle<C: Code + Drop>(
     requires { ⌜ now standing .width ≤ length (now table) ⌝ ∗ ⌜ now standing .width ≤ C·Truth .sort .width ⌝ }
     requires { ⌜ now standing .width ≤ length (now marks) ⌝ ∗ ⌜ now standing .width ≤ length (now walk) ⌝ ∗ ⌜ now standing .width < length (now ring) ⌝ }
     ensures ringed { λ r. ⌜ r ≡ ringed (now (now (standing .entry) .lines)) ⌝ }
-    ensures left { λ r. ⌜ When r (Ringed (C·Truth .sort) (now (standing .entry) .width) (now (now (standing .entry) .lines)) (lent (now (table .entry)) (now (marks .entry)) (now (walk .entry)) (now (ring .entry))) (lent (now (table .exit)) (now (marks .exit)) (now (walk .exit)) (now (ring .exit)))) (Closed (C·Truth .sort) (now (standing .entry) .width) (now (now (standing .entry) .kinds)) (now (now (standing .entry) .lines)) (lent (now (table .entry)) (now (marks .entry)) (now (walk .entry)) (now (ring .entry))) (lent (now (table .exit)) (now (marks .exit)) (now (walk .exit)) (now (ring .exit)))) ⌝ }
+    ensures left { λ r. ⌜ When r (Ringed (C·Truth .sort) (now (standing .entry) .width) (now (now (standing .entry) .lines)) (lent (now (table .entry)) (now (marks .entry)) (now (walk .entry)) (now (ring .entry))) (lent (now (table .exit)) (now (marks .exit)) (now (walk .exit)) (now (ring .exit)))) (Closed (C·Truth .sort) (now (standing .entry) .width) (serialsOf (now (now (standing .entry) .kinds))) (placesOf (now (now (standing .entry) .kinds))) (now (now (standing .entry) .lines)) (lent (now (table .entry)) (now (marks .entry)) (now (walk .entry)) (now (ring .entry))) (lent (now (table .exit)) (now (marks .exit)) (now (walk .exit)) (now (ring .exit)))) ⌝ }
 {
     let w = standing.width;
     fill_descents::<C>(standing, table);
@@ -86,7 +86,7 @@ pub fn close<C: Code + Drop>(
     ring: &mut [u32],
 ) -> Result<(), ClosingFault>
     ensures told { λ r. ⌜ Says closingTold r (closingRefusal (now (standing .entry) .width) (C·Truth .sort .width) (now (now (standing .entry) .lines)) (lent (now (table .entry)) (now (marks .entry)) (now (walk .entry)) (now (ring .entry)))) ⌝ }
-    ensures left { λ r. ⌜ Closes (C·Truth .sort) (now (standing .entry) .width) (now (now (standing .entry) .kinds)) (now (now (standing .entry) .lines)) (lent (now (table .entry)) (now (marks .entry)) (now (walk .entry)) (now (ring .entry))) (lent (now (table .exit)) (now (marks .exit)) (now (walk .exit)) (now (ring .exit))) r ⌝ }
+    ensures left { λ r. ⌜ Closes (C·Truth .sort) (now (standing .entry) .width) (serialsOf (now (now (standing .entry) .kinds))) (placesOf (now (now (standing .entry) .kinds))) (now (now (standing .entry) .lines)) (lent (now (table .entry)) (now (marks .entry)) (now (walk .entry)) (now (ring .entry))) (lent (now (table .exit)) (now (marks .exit)) (now (walk .exit)) (now (ring .exit))) r ⌝ }
 {
     check_lists(
         standing.width,
