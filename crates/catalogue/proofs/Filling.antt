@@ -1,9 +1,8 @@
 -- Filling a catalogue, kind by kind and line by line.
 use mathlib.Core.Path.{_≡_, refl, sym, ap, ap₂, _∙_}
-use mathlib.Core.List.{List, [], _∷_, _++_, map}
+use mathlib.Core.List.{List, [], _∷_, _++_}
 use mathlib.Core.Bool.{true}
-use Prim.Native.Nat.{ℕ, suc, _+_, _<_, _≤_}
-use native.Mathlib.Omega.{arith}
+use Prim.Native.Nat.{ℕ, _+_, _<_, _≤_}
 use lib.ListN.{length, getD, take, drop}
 use Rattle.std.proofs.shelf.Lists.{append-assoc, map-push, map-more}
 use Rattle.std.proofs.shelf.Tests.{and-parts, false≢true}
@@ -11,7 +10,7 @@ use Rattle.descent.specs.declared.kind.Kind.{Kind}
 use Rattle.descent.specs.declared.line.Line.{Line}
 use Rattle.descent.specs.Proper.{joins, joining}
 use Rattle.words.specs.Words.{lowBits}
-use Rattle.catalogue.specs.Formats.{serialsIn, lineIn, pairsIn}
+use Rattle.catalogue.specs.Formats.{serialsIn, pairsIn}
 use Rattle.catalogue.proofs.ImageChecks.{pairs-more}
 use Rattle.catalogue.proofs.KindEdits.{serials}
 

@@ -1,24 +1,22 @@
 -- Words that should be an image, checked from the left.
-use mathlib.Core.Path.{_≡_, refl, sym, ap, ap₂, subst, _∙_}
-use mathlib.Core.List.{List, [], _∷_, _++_, map}
-use mathlib.Core.Bool.{Bool, true, false, not, cond}
-use Prim.Native.Nat.{ℕ, zero, suc, _+_, _-_, _*_, _^_, _<_, _≤_}
+use mathlib.Core.Path.{_≡_, refl, sym, ap, subst, _∙_}
+use mathlib.Core.List.{List, [], _∷_}
+use mathlib.Core.Bool.{true, false, not}
+use Prim.Native.Nat.{ℕ, _+_, _<_, _≤_}
 use native.Mathlib.Numerals.{add-one}
 use native.Mathlib.Omega.{arith}
-use lib.Dec.{eqb, ltb, leb}
+use lib.Dec.{ltb}
 use lib.ListN.{length, getD, take, drop}
 use Rattle.std.specs.declared.option.Option.{Option}
 use Rattle.std.specs.declared.option.Option.the-variants.{Some, None}
 use Rattle.std.specs.declared.result.Result.{Result}
-use Rattle.std.proofs.shelf.Lists.{length-drop, take-rest, append-assoc}
 use Rattle.std.proofs.shelf.Tests.{cond-true, cond-false, not-from-true, le-ltb}
-use Rattle.descent.specs.declared.line.Line.{Line}
 use Rattle.descent.specs.Order.{lineKey}
 use Rattle.words.specs.declared.refusal.Refusal.{Refusal}
 use Rattle.words.specs.declared.refusal.Part.the-variants as part
 use Rattle.words.specs.declared.word.WordKind.the-variants.{ImageHead, ImageEnd}
 use Rattle.words.specs.Words.{lowBits, isKind}
-use Rattle.words.specs.Refusals.{Says, refusal, refuseIf, firstOf}
+use Rattle.words.specs.Refusals.{Says, refusal, refuseIf}
 use Rattle.catalogue.specs.Formats.{notDue, namesRefusal, childRefusal, parentRefusal, endRefusal, linesRefusal, imageRefusal, serialsIn, lineIn, pairsIn, countIn}
 use Rattle.catalogue.proofs.Chain.{passes, last-check, stops, unrefused}
 

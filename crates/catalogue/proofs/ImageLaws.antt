@@ -1,13 +1,12 @@
 -- The image of kinds and lines that a catalogue can hold is accepted, and reads back as the same.
-use mathlib.Core.Path.{_≡_, refl, sym, ap, ap₂, subst, _∙_}
+use mathlib.Core.Path.{_≡_, refl, sym, ap, ap₂, _∙_}
 use mathlib.Core.List.{List, [], _∷_, _++_, map}
-use mathlib.Core.Bool.{Bool, true, false, not, cond, _&&_}
-use Prim.Native.Nat.{ℕ, zero, suc, _+_, _*_, _/_, _%_, _^_, _<_, _≤_}
+use mathlib.Core.Bool.{true, false, not, _&&_}
+use Prim.Native.Nat.{ℕ, suc, _+_, _*_, _^_, _<_, _≤_}
 use native.Mathlib.Omega.{arith}
 use lib.Dec.{eqb, ltb, leb}
 use lib.ListN.{length, take, drop}
-use Rattle.std.specs.declared.option.Option.{Option}
-use Rattle.std.specs.declared.option.Option.the-variants.{Some, None}
+use Rattle.std.specs.declared.option.Option.the-variants.{None}
 use Rattle.std.specs.Of.Vec.{vec-items}
 use Rattle.std.specs.shelf.Lists.{joined}
 use Rattle.std.proofs.shelf.Lists.{append-assoc, length-map, take-at, drop-at}
@@ -21,8 +20,8 @@ use Rattle.words.specs.declared.refusal.Part.the-variants as part
 use Rattle.words.specs.declared.word.WordKind.{WordKind}
 use Rattle.words.specs.declared.word.WordKind.the-variants.{Name, ImageHead, Child, Parent, ImageEnd}
 use Rattle.words.specs.Words.{kindNumber, numberOf, lowBits, isKind, wordOf}
-use Rattle.words.specs.Refusals.{refusal, refuseIf, firstOf, serialRefusal}
-use Rattle.catalogue.specs.Formats.{notDue, nameRefusal, namesRefusal, namedRefusal, childRefusal, parentRefusal, endRefusal, linesRefusal, imageRefusal, serialsIn, lineIn, lineWords, pairsIn, kindsIn, linesIn, imageBody, imageOf}
+use Rattle.words.specs.Refusals.{refusal, refuseIf, serialRefusal}
+use Rattle.catalogue.specs.Formats.{notDue, nameRefusal, namesRefusal, namedRefusal, childRefusal, parentRefusal, endRefusal, linesRefusal, serialsIn, lineIn, lineWords, pairsIn, kindsIn, linesIn, imageBody}
 use Rattle.catalogue.specs.Images.{ReadsBack, TellsApart}
 use Rattle.catalogue.specs.Proper.{CanHold}
 use Rattle.catalogue.specs.View.{view}

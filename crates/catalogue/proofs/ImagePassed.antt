@@ -1,9 +1,9 @@
 -- What is true of words that pass as an image.
-use mathlib.Core.Path.{_≡_, refl, sym, ap, ap₂, subst, _∙_}
+use mathlib.Core.Path.{_≡_, refl, sym, ap, ap₂, _∙_}
 use mathlib.Core.List.{List, [], _∷_, _++_, map}
-use mathlib.Core.Bool.{Bool, true, false, not, cond, _&&_}
+use mathlib.Core.Bool.{true, false, not, _&&_}
 use mathlib.Core.Logic.{⊎-elim}
-use Prim.Native.Nat.{ℕ, zero, suc, _+_, _-_, _*_, _/_, _%_, _^_, _<_, _≤_}
+use Prim.Native.Nat.{ℕ, zero, suc, _+_, _-_, _*_, _/_, _^_, _<_, _≤_}
 use native.Mathlib.Omega.{arith}
 use lib.Dec.{eqb, ltb, leb}
 use lib.ListN.{length, getD, take, drop}
@@ -21,7 +21,7 @@ use Rattle.words.specs.declared.refusal.Part.the-variants as part
 use Rattle.words.specs.declared.word.WordKind.{WordKind}
 use Rattle.words.specs.declared.word.WordKind.the-variants.{Name, ImageHead, Child, Parent, ImageEnd}
 use Rattle.words.specs.Words.{kindNumber, numberOf, lowBits, isKind, wordOf}
-use Rattle.words.specs.Refusals.{refusal, refuseIf, firstOf, serialRefusal}
+use Rattle.words.specs.Refusals.{refusal, refuseIf, serialRefusal}
 use Rattle.catalogue.specs.Formats.{notDue, nothingDue, nameRefusal, namesRefusal, namedRefusal, childRefusal, parentRefusal, endRefusal, linesRefusal, imageRefusal, serialsIn, lineIn, lineWords, pairsIn, kindsIn, linesIn, imageBody, imageOf, countIn}
 use Rattle.catalogue.specs.Proper.{CanHold}
 use Rattle.catalogue.proofs.AnswerChecks.{names-passed}

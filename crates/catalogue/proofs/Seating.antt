@@ -1,6 +1,6 @@
 -- The places stay the places below the width, each once.
-use mathlib.Core.Path.{_≡_, refl, sym, ap, ap₂, subst, _∙_}
-use mathlib.Core.List.{List, [], _∷_, _++_, map}
+use mathlib.Core.Path.{_≡_, refl, sym, ap, ap₂, _∙_}
+use mathlib.Core.List.{List, [], _∷_, _++_}
 use mathlib.Core.Bool.{Bool, true, false, not, _&&_}
 use Prim.Native.Nat.{ℕ, zero, suc, _+_, _<_, _≤_}
 use native.Mathlib.Omega.{arith}
@@ -14,7 +14,8 @@ use Rattle.std.specs.Iters.{counting}
 use Rattle.std.proofs.shelf.Counted.{length-counting, map-counting-more}
 use Rattle.std.proofs.shelf.Tests.{and-from, and-parts, or-from, or-parts, not-true, not-from-false, ne-eqb, eq-eqb, lt-ltb}
 use Rattle.descent.specs.Lines.{stands}
-use Rattle.catalogue.proofs.Rows.{stands-append, below-middle, distinct-middle}
+use Rattle.catalogue.proofs.Rows.{below-middle, distinct-middle}
+use Rattle.descent.proofs.Lines.{stands-append}
 
 length-middle : (xs ys : List ℕ) (y : ℕ) → length (xs ++ y ∷ ys) ≡ length (y ∷ (xs ++ ys))
 length-middle xs ys y = omega (arith, length-append xs (y ∷ ys), length-append xs ys)
@@ -85,7 +86,7 @@ distinct-front : (xs ys : List ℕ) → distinct (xs ++ ys) ≡ true → distinc
 distinct-front [] ys h = refl
 distinct-front (x ∷ xs) ys h =
     let p = and-parts (not (stands x (xs ++ ys))) (distinct (xs ++ ys)) h in
-    let q = or-parts (stands x xs) (stands x ys) (sym (stands-append xs ys x) ∙ not-true (stands x (xs ++ ys)) (p .0)) in
+    let q = or-parts (stands x xs) (stands x ys) (sym (stands-append x xs ys) ∙ not-true (stands x (xs ++ ys)) (p .0)) in
     and-from (not (stands x xs)) (distinct xs) (not-from-false (stands x xs) (q .0)) (distinct-front xs ys (p .1))
 
 -- each kind's place is below the width, and its own

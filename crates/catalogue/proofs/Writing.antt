@@ -1,7 +1,7 @@
 -- An image, written word by word from the start of a list.
-use mathlib.Core.Path.{_≡_, refl, sym, ap, ap₂, subst, _∙_}
+use mathlib.Core.Path.{_≡_, refl, sym, ap, ap₂, _∙_}
 use mathlib.Core.List.{List, [], _∷_, _++_, map}
-use mathlib.Core.Bool.{Bool, true, not, _&&_}
+use mathlib.Core.Bool.{true, not, _&&_}
 use Prim.Native.Nat.{ℕ, zero, suc, _+_, _*_, _^_, _<_, _≤_}
 use native.Mathlib.Omega.{arith}
 use lib.Dec.{eqb, ltb}
@@ -10,15 +10,13 @@ use Rattle.std.specs.shelf.Lists.{joined, paste}
 use Rattle.std.proofs.shelf.Edits.{paste-more, paste-paste, paste-all}
 use Rattle.std.proofs.shelf.Lists.{append-assoc, length-append, length-map, length-set, length-take-le, take-more, joined-more, getD-map}
 use Rattle.std.proofs.shelf.Tests.{and-parts, and-from, ltb-true, lt-ltb}
-use Rattle.descent.specs.declared.kind.Kind.{Kind}
 use Rattle.descent.specs.declared.line.Line.{Line}
 use Rattle.descent.specs.Lines.{stands}
 use Rattle.descent.specs.Proper.{below, joins, joining}
 use Rattle.words.specs.declared.word.WordKind.the-variants.{Name, ImageHead, Child, Parent, ImageEnd}
 use Rattle.words.specs.Words.{lowBits, wordOf}
-use Rattle.catalogue.specs.Formats.{lineWords, imageBody, imageOf, imageLength}
+use Rattle.catalogue.specs.Formats.{lineWords, imageBody, imageOf}
 use Rattle.catalogue.proofs.Keeping.{paste-one}
-use Rattle.catalogue.proofs.KindEdits.{serials}
 use Rattle.catalogue.proofs.LineEdits.{stands-below}
 
 pub below-at : (w : ℕ) (xs : List ℕ) → below w xs ≡ true → (k : ℕ) → k < length xs → getD xs k 0 < w

@@ -2,12 +2,11 @@
 ghost use mathlib.Core.Path.{_≡_};
 ghost use mathlib.Core.List.{map, _++_};
 ghost use mathlib.Core.Bool.{true};
-ghost use Prim.Native.Nat.{ℕ, _+_, _*_, _^_, _<_, _≤_};
+ghost use Prim.Native.Nat.{ℕ, _+_, _^_, _<_, _≤_};
 ghost use lib.ListN.{length};
 ghost use Rattle.std.specs.Of.Vec.{vec-len, vec-cap, vec-items};
 ghost use Rattle.std.specs.Results.{Cases};
 ghost use Rattle.descent.specs.Order.{risingFrom, lineKey};
-ghost use Rattle.words.specs.Words.{lowBits};
 ghost use Rattle.words.specs.Refusals.{Says, catalogueTold, imageTold};
 ghost use Rattle.catalogue.specs.Formats.{imageOf, serialsIn, pairsIn, lineIn, namedRefusal, childRefusal, parentRefusal, endRefusal, linesRefusal, imageRefusal, countIn};
 ghost use Rattle.catalogue.specs.Ledger.{read-image};

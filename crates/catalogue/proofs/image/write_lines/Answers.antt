@@ -1,8 +1,8 @@
 use mathlib.Core.Path.{_≡_, ap₂, _∙_}
 use mathlib.Core.List.{List, []}
-use Prim.Native.Nat.{ℕ, _+_, _*_, _<_}
+use Prim.Native.Nat.{ℕ, _*_, _<_}
 use native.Mathlib.Omega.{arith}
-use lib.ListN.{length, take}
+use lib.ListN.{length}
 use Rattle.std.specs.shelf.Lists.{joined, paste}
 use Rattle.std.proofs.shelf.Edits.{paste-none}
 use Rattle.std.proofs.shelf.Lists.{take-all}

@@ -1,20 +1,18 @@
-use mathlib.Core.Path.{_≡_, refl, sym, ap, ap₂, subst, _∙_}
-use mathlib.Core.List.{List, [], _∷_, _++_, map}
-use mathlib.Core.Bool.{true, false}
-use Prim.Native.Nat.{ℕ, _+_, _-_, _^_, _<_, _≤_}
+use mathlib.Core.Path.{_≡_, sym, ap, ap₂, _∙_}
+use mathlib.Core.List.{List, [], _++_, map}
+use Prim.Native.Nat.{ℕ, _^_}
 use native.Mathlib.Omega.{arith}
-use lib.ListN.{length, take, drop}
-use Rattle.std.specs.Of.Vec.{vec-len, vec-items, vec-cap}
+use lib.ListN.{length}
+use Rattle.std.specs.Of.Vec.{vec-len, vec-items}
 use Rattle.std.proofs.shelf.Lists.{length-map, nil-from-length}
 use Rattle.std.proofs.shelf.Results.{err-from-errBy}
 use Rattle.std.proofs.shelf.Tests.{eqb-true, eqb-false, lt-ltb, le-ltb}
-use Rattle.descent.specs.declared.kind.Kind.{Kind}
 use Rattle.descent.specs.declared.line.Line.{Line}
 use Rattle.descent.specs.Order.{risingFrom, lineKey}
 use Rattle.descent.specs.Proper.{below, joining}
 use Rattle.words.specs.Refusals.{imageTold}
 use Rattle.catalogue.specs.declared.state.Catalogue.{Catalogue}
-use Rattle.catalogue.specs.Formats.{serialsIn, pairsIn, kindsIn, linesIn, imageOf}
+use Rattle.catalogue.specs.Formats.{kindsIn, linesIn, imageOf}
 use Rattle.catalogue.specs.Ledger.{read-image, opened}
 use Rattle.catalogue.specs.View.{view}
 use Rattle.catalogue.proofs.Chain.{passes, last-check, stops, unrefused, refuses}

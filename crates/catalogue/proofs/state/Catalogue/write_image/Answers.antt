@@ -1,7 +1,6 @@
-use mathlib.Core.Path.{_≡_, refl, sym, ap, ap₂, subst, _∙_}
+use mathlib.Core.Path.{_≡_, refl, sym, ap, ap₂, _∙_}
 use mathlib.Core.List.{List, [], _∷_, map}
-use mathlib.Core.Bool.{true}
-use Prim.Native.Nat.{ℕ, _+_, _*_, _^_, _<_, _≤_}
+use Prim.Native.Nat.{ℕ, _+_, _*_, _^_, _≤_}
 use native.Mathlib.Omega.{arith}
 use lib.ListN.{length, set}
 use Rattle.std.specs.Of.Vec.{vec-items}
@@ -16,7 +15,7 @@ use Rattle.words.specs.declared.word.WordKind.the-variants.{Name, ImageHead, Im
 use Rattle.words.specs.Words.{wordOf}
 use Rattle.words.specs.Refusals.{listRefusal}
 use Rattle.catalogue.specs.declared.state.Catalogue.{Catalogue}
-use Rattle.catalogue.specs.Formats.{lineWords, imageLength, imageBody, imageOf}
+use Rattle.catalogue.specs.Formats.{lineWords, imageLength, imageBody}
 use Rattle.catalogue.specs.View.{view}
 use Rattle.catalogue.proofs.Chain.{not-refused}
 use Rattle.catalogue.proofs.ImageLaws.{standing-held, reads-back, tells-apart}
