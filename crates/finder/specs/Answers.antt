@@ -11,8 +11,15 @@ use Rattle.words.specs.declared.refusal.Refusal.{Refusal}
 abbrev pub lineBreak : List ℕ
 lineBreak = 10 ∷ []
 
+abbrev pub okLine : List ℕ
+okLine = codes "ok" ++ lineBreak
+
 abbrev pub okWords : List ℕ → List ℕ
 okWords words = codes "ok" ++ spaced words ++ lineBreak
+
+-- ok KITS CHANGED
+abbrev pub okKits : ℕ → ℕ → List ℕ
+okKits kits changed = codes "ok " ++ decimal kits ++ codes " " ++ decimal changed ++ lineBreak
 
 abbrev pub partName : Part → List ℕ
 partName part.Lists = codes "lists"

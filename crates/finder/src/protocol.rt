@@ -3,7 +3,7 @@ ghost use mathlib.Core.Path.{_≡_};
 ghost use mathlib.Core.List.{_++_};
 ghost use Rattle.std.specs.Of.Vec.{vec-items};
 ghost use Rattle.std.specs.Vec.{made};
-ghost use Rattle.finder.specs.Answers.{okWords, partName, refusedLine};
+ghost use Rattle.finder.specs.Answers.{okLine, okWords, okKits, partName, refusedLine};
 use super::trouble::Mistake;
 use super::trouble::Trouble;
 use std::alloc::AllocError;
@@ -12,7 +12,9 @@ use terminal::write_words;
 use words::Part;
 use words::Refusal;
 
-pub fn write_ok(out: &mut Vec<u8>) -> Result<(), AllocError> {
+pub fn write_ok(out: &mut Vec<u8>) -> Result<(), AllocError>
+    ensures { λ r. ⌜ made r (λ _. vec-items (now (out .exit)) ≡ vec-items (now (out .entry)) ++ okLine) ⌝ }
+{
     out.extend_from_slice(b"ok\n")
 }
 
@@ -24,7 +26,9 @@ pub fn write_ok_words(out: &mut Vec<u8>, words: &[u32]) -> Result<(), AllocError
     out.extend_from_slice(b"\n")
 }
 
-pub fn write_ok_kits(out: &mut Vec<u8>, kits: usize, changed: usize) -> Result<(), AllocError> {
+pub fn write_ok_kits(out: &mut Vec<u8>, kits: usize, changed: usize) -> Result<(), AllocError>
+    ensures { λ r. ⌜ made r (λ _. vec-items (now (out .exit)) ≡ vec-items (now (out .entry)) ++ okKits kits changed) ⌝ }
+{
     out.extend_from_slice(b"ok ")?;
     write_decimal(out, kits as u64)?;
     out.extend_from_slice(b" ")?;
