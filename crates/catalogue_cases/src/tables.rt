@@ -15,6 +15,74 @@ pub struct Case {
     pub words: &'static [u32],
 }
 
+// Words by their kinds: A an answer head, N a name, I an image head, C a child, P a parent, E an image end, U an unused kind; with
+// the count or serial in them.
+const A0: u32 = 0x7000_0000;
+
+const A1: u32 = 0x7000_0001;
+
+const A2: u32 = 0x7000_0002;
+
+const A3: u32 = 0x7000_0003;
+
+const N0: u32 = 0x1000_0000;
+
+const N10: u32 = 0x1000_000A;
+
+const N11: u32 = 0x1000_000B;
+
+const N20: u32 = 0x1000_0014;
+
+const N30: u32 = 0x1000_001E;
+
+const N99: u32 = 0x1000_0063;
+
+const I0: u32 = 0x8000_0000;
+
+const I1: u32 = 0x8000_0001;
+
+const I2: u32 = 0x8000_0002;
+
+const I3: u32 = 0x8000_0003;
+
+const I4: u32 = 0x8000_0004;
+
+const I513: u32 = 0x8000_0201;
+
+const C0: u32 = 0x9000_0000;
+
+const C10: u32 = 0x9000_000A;
+
+const C20: u32 = 0x9000_0014;
+
+const C30: u32 = 0x9000_001E;
+
+const C99: u32 = 0x9000_0063;
+
+const P0: u32 = 0xA000_0000;
+
+const P10: u32 = 0xA000_000A;
+
+const P20: u32 = 0xA000_0014;
+
+const P99: u32 = 0xA000_0063;
+
+const E1: u32 = 0xF000_0001;
+
+const E2: u32 = 0xF000_0002;
+
+const E3: u32 = 0xF000_0003;
+
+const E4: u32 = 0xF000_0004;
+
+const E5: u32 = 0xF000_0005;
+
+const E6: u32 = 0xF000_0006;
+
+const E8: u32 = 0xF000_0008;
+
+const U10: u32 = 0xC000_000A;
+
 // In a catalogue of three places.
 pub const STEPS: [Step; 30] = [
     Step::Enter(0),
@@ -49,7 +117,7 @@ pub const STEPS: [Step; 30] = [
     Step::Withdraw(10),
 ];
 
-// 10, 20 and 30, with lines 20-10 and 30-10, damaged in each way; the last is whole.
+// 10, 20 and 30, with lines 20-10 and 30-10, damaged in each way; the last two are whole.
 pub const IMAGES: [Case; 26] = [
     Case {
         label: "no word",
@@ -57,198 +125,103 @@ pub const IMAGES: [Case; 26] = [
     },
     Case {
         label: "an answer head",
-        words: &[0x70000003, 0x1000000A, 0x10000014, 0x1000001E, 0xF0000004],
+        words: &[A3, N10, N20, N30, E4],
     },
     Case {
         label: "a count above the width",
-        words: &[0x80000201, 0x1000000A, 0x10000014, 0x1000001E, 0xF0000004],
+        words: &[I513, N10, N20, N30, E4],
     },
     Case {
         label: "a count too high",
-        words: &[
-            0x80000004,
-            0x1000000A,
-            0x10000014,
-            0x1000001E,
-            0x90000014,
-            0xA000000A,
-            0xF0000006,
-        ],
+        words: &[I4, N10, N20, N30, C20, P10, E6],
     },
     Case {
         label: "a count too low",
-        words: &[
-            0x80000002,
-            0x1000000A,
-            0x10000014,
-            0x1000001E,
-            0x90000014,
-            0xA000000A,
-            0xF0000006,
-        ],
+        words: &[I2, N10, N20, N30, C20, P10, E6],
     },
     Case {
         label: "names missing",
-        words: &[0x80000003, 0x1000000A],
+        words: &[I3, N10],
     },
     Case {
         label: "a name repeated",
-        words: &[0x80000003, 0x1000000A, 0x1000000A, 0x1000001E, 0xF0000004],
+        words: &[I3, N10, N10, N30, E4],
     },
     Case {
         label: "names out of order",
-        words: &[0x80000003, 0x10000014, 0x1000000A, 0x1000001E, 0xF0000004],
+        words: &[I3, N20, N10, N30, E4],
     },
     Case {
         label: "serial 0 in a name",
-        words: &[0x80000003, 0x10000000, 0x10000014, 0x1000001E, 0xF0000004],
+        words: &[I3, N0, N20, N30, E4],
     },
     Case {
         label: "serial 0 in a child",
-        words: &[
-            0x80000002,
-            0x1000000A,
-            0x10000014,
-            0x90000000,
-            0xA000000A,
-            0xF0000005,
-        ],
+        words: &[I2, N10, N20, C0, P10, E5],
     },
     Case {
         label: "a child that does not stand",
-        words: &[
-            0x80000002,
-            0x1000000A,
-            0x10000014,
-            0x90000063,
-            0xA000000A,
-            0xF0000005,
-        ],
+        words: &[I2, N10, N20, C99, P10, E5],
     },
     Case {
         label: "serial 0 in a parent",
-        words: &[
-            0x80000002,
-            0x1000000A,
-            0x10000014,
-            0x90000014,
-            0xA0000000,
-            0xF0000005,
-        ],
+        words: &[I2, N10, N20, C20, P0, E5],
     },
     Case {
         label: "a parent that does not stand",
-        words: &[
-            0x80000002,
-            0x1000000A,
-            0x10000014,
-            0x90000014,
-            0xA0000063,
-            0xF0000005,
-        ],
+        words: &[I2, N10, N20, C20, P99, E5],
     },
     Case {
         label: "a kind as its own parent",
-        words: &[
-            0x80000002,
-            0x1000000A,
-            0x10000014,
-            0x90000014,
-            0xA0000014,
-            0xF0000005,
-        ],
+        words: &[I2, N10, N20, C20, P20, E5],
     },
     Case {
         label: "a parent before its child",
-        words: &[
-            0x80000002,
-            0x1000000A,
-            0x10000014,
-            0xA000000A,
-            0x90000014,
-            0xF0000005,
-        ],
+        words: &[I2, N10, N20, P10, C20, E5],
     },
     Case {
         label: "two children running",
-        words: &[
-            0x80000002,
-            0x1000000A,
-            0x10000014,
-            0x90000014,
-            0x90000014,
-            0xF0000005,
-        ],
+        words: &[I2, N10, N20, C20, C20, E5],
     },
     Case {
         label: "a child and then the end",
-        words: &[0x80000002, 0x1000000A, 0x10000014, 0x90000014, 0xF0000004],
+        words: &[I2, N10, N20, C20, E4],
     },
     Case {
         label: "a child and no more words",
-        words: &[0x80000002, 0x1000000A, 0x10000014, 0x90000014],
+        words: &[I2, N10, N20, C20],
     },
     Case {
         label: "a line repeated",
-        words: &[
-            0x80000003,
-            0x1000000A,
-            0x10000014,
-            0x1000001E,
-            0x90000014,
-            0xA000000A,
-            0x90000014,
-            0xA000000A,
-            0xF0000008,
-        ],
+        words: &[I3, N10, N20, N30, C20, P10, C20, P10, E8],
     },
     Case {
         label: "lines out of order",
-        words: &[
-            0x80000003,
-            0x1000000A,
-            0x10000014,
-            0x1000001E,
-            0x9000001E,
-            0xA000000A,
-            0x90000014,
-            0xA000000A,
-            0xF0000008,
-        ],
+        words: &[I3, N10, N20, N30, C30, P10, C20, P10, E8],
     },
     Case {
         label: "a word of an unused kind",
-        words: &[0x80000001, 0x1000000A, 0xC000000A, 0xF0000003],
+        words: &[I1, N10, U10, E3],
     },
     Case {
         label: "a wrong count at the end",
-        words: &[0x80000001, 0x1000000A, 0xF0000003],
+        words: &[I1, N10, E3],
     },
     Case {
         label: "a word after the end",
-        words: &[0x80000001, 0x1000000A, 0xF0000002, 0xF0000002],
+        words: &[I1, N10, E2, E2],
     },
     Case {
         label: "no end",
-        words: &[0x80000001, 0x1000000A],
+        words: &[I1, N10],
     },
     Case {
         label: "whole",
-        words: &[
-            0x80000003,
-            0x1000000A,
-            0x10000014,
-            0x1000001E,
-            0x90000014,
-            0xA000000A,
-            0x9000001E,
-            0xA000000A,
-            0xF0000008,
-        ],
+        words: &[I3, N10, N20, N30, C20, P10, C30, P10, E8],
     },
     Case {
         label: "whole, where kinds stand",
-        words: &[0x80000000, 0xF0000001],
+        words: &[I0, E1],
     },
 ];
 
@@ -260,54 +233,54 @@ pub const ANSWERS: [Case; 14] = [
     },
     Case {
         label: "an image head",
-        words: &[0x80000001, 0x1000000A],
+        words: &[I1, N10],
     },
     Case {
         label: "a name for a head",
-        words: &[0x1000000A],
+        words: &[N10],
     },
     Case {
         label: "a name missing",
-        words: &[0x70000002, 0x1000000A],
+        words: &[A2, N10],
     },
     Case {
         label: "a word beyond the names",
-        words: &[0x70000001, 0x1000000A, 0x10000014],
+        words: &[A1, N10, N20],
     },
     Case {
         label: "a child for a name",
-        words: &[0x70000001, 0x9000000A],
+        words: &[A1, C10],
     },
     Case {
         label: "serial 0 in a name",
-        words: &[0x70000002, 0x1000000A, 0x10000000],
+        words: &[A2, N10, N0],
     },
     Case {
         label: "names out of order",
-        words: &[0x70000002, 0x10000014, 0x1000000A],
+        words: &[A2, N20, N10],
     },
     Case {
         label: "a name repeated",
-        words: &[0x70000002, 0x1000000A, 0x1000000A],
+        words: &[A2, N10, N10],
     },
     Case {
         label: "the leftmost of two faults",
-        words: &[0x70000003, 0x1000000A, 0x10000000, 0x90000014],
+        words: &[A3, N10, N0, C20],
     },
     Case {
         label: "whole",
-        words: &[0x70000002, 0x1000000A, 0x1000001E],
+        words: &[A2, N10, N30],
     },
     Case {
         label: "whole, a kind gone",
-        words: &[0x70000003, 0x1000000A, 0x1000000B, 0x1000001E],
+        words: &[A3, N10, N11, N30],
     },
     Case {
         label: "whole, all kinds gone",
-        words: &[0x70000001, 0x10000063],
+        words: &[A1, N99],
     },
     Case {
         label: "whole, no kinds",
-        words: &[0x70000000],
+        words: &[A0],
     },
 ];

@@ -1,4 +1,9 @@
 // The answer lines of the protocol: what comes back for a call.
+ghost use mathlib.Core.Path.{_≡_};
+ghost use mathlib.Core.List.{_++_};
+ghost use Rattle.std.specs.Of.Vec.{vec-items};
+ghost use Rattle.std.specs.Vec.{made};
+ghost use Rattle.finder.specs.Answers.{okLine, okWords, okKits, partName, refusedLine};
 use super::trouble::Mistake;
 use super::trouble::Trouble;
 use std::alloc::AllocError;
@@ -7,17 +12,23 @@ use terminal::write_words;
 use words::Part;
 use words::Refusal;
 
-pub fn write_ok(out: &mut Vec<u8>) -> Result<(), AllocError> {
+pub fn write_ok(out: &mut Vec<u8>) -> Result<(), AllocError>
+    ensures { λ r. ⌜ made r (λ _. vec-items (now (out .exit)) ≡ vec-items (now (out .entry)) ++ okLine) ⌝ }
+{
     out.extend_from_slice(b"ok\n")
 }
 
-pub fn write_ok_words(out: &mut Vec<u8>, words: &[u32]) -> Result<(), AllocError> {
+pub fn write_ok_words(out: &mut Vec<u8>, words: &[u32]) -> Result<(), AllocError>
+    ensures { λ r. ⌜ made r (λ _. vec-items (now (out .exit)) ≡ vec-items (now (out .entry)) ++ okWords (now (words .entry))) ⌝ }
+{
     out.extend_from_slice(b"ok")?;
     write_words(out, words)?;
     out.extend_from_slice(b"\n")
 }
 
-pub fn write_ok_kits(out: &mut Vec<u8>, kits: usize, changed: usize) -> Result<(), AllocError> {
+pub fn write_ok_kits(out: &mut Vec<u8>, kits: usize, changed: usize) -> Result<(), AllocError>
+    ensures { λ r. ⌜ made r (λ _. vec-items (now (out .exit)) ≡ vec-items (now (out .entry)) ++ okKits kits changed) ⌝ }
+{
     out.extend_from_slice(b"ok ")?;
     write_decimal(out, kits as u64)?;
     out.extend_from_slice(b" ")?;
@@ -32,7 +43,9 @@ pub fn write_trouble(out: &mut Vec<u8>, trouble: Trouble) -> Result<(), AllocErr
     }
 }
 
-pub fn write_refusal(out: &mut Vec<u8>, told: Refusal) -> Result<(), AllocError> {
+pub fn write_refusal(out: &mut Vec<u8>, told: Refusal) -> Result<(), AllocError>
+    ensures { λ r. ⌜ made r (λ _. vec-items (now (out .exit)) ≡ vec-items (now (out .entry)) ++ refusedLine told) ⌝ }
+{
     out.extend_from_slice(b"refused ")?;
     write_decimal(out, told.number as u64)?;
     out.extend_from_slice(b" at ")?;
@@ -48,7 +61,9 @@ fn write_mistake(out: &mut Vec<u8>, mistake: Mistake) -> Result<(), AllocError> 
     out.extend_from_slice(b"\n")
 }
 
-fn part_name(part: Part) -> &'static [u8] {
+fn part_name(part: Part) -> &'static [u8]
+    ensures { λ r. ⌜ now r ≡ partName part ⌝ }
+{
     match part {
         Part::Lists => b"lists",
         Part::Serial => b"serial",
