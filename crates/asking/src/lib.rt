@@ -1,2 +1,8 @@
 // Asking a question of a closed catalogue, and fitting a kind to a question, over any sort of code.
+mod answer;
+mod checks;
 mod decode;
+mod naming;
+mod row_names;
+
+pub use answer::ask;
