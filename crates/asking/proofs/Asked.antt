@@ -1,11 +1,13 @@
 -- What an evaluated question leaves, where the table belongs to the catalogue.
 use mathlib.Core.Path.{_≡_, refl, sym, ap, ap₂, subst, _∙_}
 use mathlib.Core.List.{List, [], _∷_, _++_, map}
-use mathlib.Core.Bool.{Bool, true}
+use mathlib.Core.Bool.{Bool, true, _&&_}
 use Prim.Native.Nat.{ℕ, suc, _+_, _<_, _≤_}
 use native.Mathlib.Omega.{arith}
+use lib.Dec.{ltb}
 use lib.ListN.{length, getD, drop}
 use Rattle.std.proofs.shelf.Lists.{length-map, drop-at}
+use Rattle.std.proofs.shelf.Tests.{lt-ltb}
 use Rattle.descent.specs.declared.kind.Kind.{Kind}
 use Rattle.descent.specs.Lines.{stands}
 use Rattle.descent.specs.Closure.{Placed}
@@ -14,7 +16,8 @@ use Rattle.words.specs.Words.{wordOf}
 use Rattle.codes.specs.Sorts.{Sort, Agree}
 use Rattle.closing.specs.Tables.{Filled, setsOf}
 use Rattle.closing.specs.Direct.{serialsOf, placesOf}
-use Rattle.questions.specs.Questions.{valueOf}
+use Rattle.descent.proofs.Lines.{stands-position}
+use Rattle.questions.specs.Questions.{holds, valueOf}
 use Rattle.catalogue.specs.declared.state.Catalogue.{Catalogue}
 use Rattle.catalogue.specs.Formats.{answerOf}
 use Rattle.catalogue.specs.Ledger.{setOf, answering}
@@ -22,10 +25,10 @@ use Rattle.catalogue.specs.Table.{Belongs, tableOf}
 use Rattle.catalogue.specs.View.{View, view}
 use Rattle.asking.specs.Asking.{AsPlaces}
 use Rattle.asking.specs.Decoding.{decoded}
-use Rattle.asking.specs.Naming.{rowPlaces}
-use Rattle.asking.proofs.Seats.{view-placed, view-few}
+use Rattle.asking.specs.Naming.{seat, rowPlaces, fitsName}
+use Rattle.asking.proofs.Seats.{seat-at, view-placed, view-few}
 use Rattle.asking.proofs.Uppermost.{decoded-names}
-use Rattle.asking.proofs.Values.{value-as-places}
+use Rattle.asking.proofs.Values.{named-descends, holds-set, value-as-places}
 
 -- the kinds that are lent are no more than there are places
 pub shown-few : (c : Catalogue) (kinds : List Kind) → serialsOf kinds ≡ view c .book .kinds →
@@ -59,6 +62,26 @@ module _ {S R : Type 0} (s : Sort S R) (c : Catalogue) (table : List R) (belongs
       (subst (λ (w : ℕ). Filled w (v .book .kinds) (v .places) (v .book .lines) (setsOf s table)) (belongs .wide) (belongs .closed shut .filled))
       (set .kinds)
 
+  -- the words over yes and no tell whether the kind is in the question's set
+  pub fitted-set : (words : List ℕ) (serial place : ℕ) → stands serial (view c .book .kinds) ≡ true →
+      place ≡ seat (view c .book .kinds) (view c .places) serial →
+      holds (fitsName (view c) (s .width) (setsOf s table) place) true [] words ≡ setOf (view c .book) words serial
+  fitted-set words serial place st is =
+      let v = view c in
+      let placed = view-placed c in
+      let filled = belongs .closed shut .filled in
+      let q = stands-position serial (v .book .kinds) st in
+      let here : place ≡ getD (v .places) (q .0) 0 =
+      is ∙ seat-at (v .book .kinds) (v .places) (q .0) serial (placed .different) (placed .paired) (q .1) (q .2) in
+      let low : ltb place (s .width) ≡ true = lt-ltb place (s .width) (omega (arith, placed .below (q .0) (q .1), belongs .wide, here)) in
+      holds-set v (setsOf s table) placed filled words (fitsName v (s .width) (setsOf s table) place) true (q .0) (q .1)
+      (λ k.
+      ap (λ (t : Bool). t && rowPlaces v (setsOf s table) k place) low
+      ∙ ap (rowPlaces v (setsOf s table) k) here
+      ∙ named-descends v (setsOf s table) placed filled (q .0) (q .1) k)
+      refl
+      ∙ ap (setOf (v .book) words) (q .2)
+
 -- a head and names are an answer
 pub answer-written : (names old new kinds : List ℕ) (n : ℕ) → names ≡ map (wordOf Name) kinds → n ≡ length names + 1 →
     new ≡ wordOf AnswerHead (length names) ∷ names ++ drop n old →
@@ -66,8 +89,7 @@ pub answer-written : (names old new kinds : List ℕ) (n : ℕ) → names ≡ ma
 answer-written names old new kinds n e many is =
     let long = ap length e in
     let count : length names ≡ length kinds = long ∙ length-map kinds (wordOf Name) in
-    let whole : n ≡ length (answerOf kinds) = omega (arith, long) in
-    (
+    let whole : n ≡ length (answerOf kinds) = omega (arith, long) in (
       whole,
       is
           ∙ ap₂ (λ (k : ℕ) (ys : List ℕ). wordOf AnswerHead k ∷ ys ++ drop n old) count e

@@ -100,7 +100,7 @@ module _ (w : ℕ) (ks ps : List ℕ) (ls : List Line) (rows : List (ℕ → Boo
       back all d st below =
           let q = stands-position d ks st in
           let under : descends ls (getD ks (q .0) 0) (getD ks a 0) ≡ true =
-              ap (λ x. descends ls x (getD ks a 0)) (q .2) ∙ descends-decided ls d (getD ks a 0) .1 below in
+          ap (λ x. descends ls x (getD ks a 0)) (q .2) ∙ descends-decided ls d (getD ks a 0) .1 below in
           ap set (sym (q .2)) ∙ sym (sets (q .0) (q .1)) ∙ all (q .0) (q .1) (filled .descent a (q .0) h (q .1) ∙ under)
 
   covered-same : (a : ℕ) → a < length ks → coveredAt w rows (λ p. not (f p)) (getD ps a 0) ≡ covered ks ls set (getD ks a 0)
@@ -128,7 +128,7 @@ module _ (w : ℕ) (ks ps : List ℕ) (ls : List Line) (rows : List (ℕ → Boo
       let low = lt-ltb p w (placed .below a h) in
       let here = stands-at ks a h in
       let none = some-each (overlies w rows (λ q. not (f q)) p) (λ m. not (covered ks ls set m && descends ls k m) || eqb m k) ks ps (placed .paired)
-          (λ b l. over b l) in
+      (λ b l. over b l) in
       ap₂ (λ x y. x && not (y && belowCovered w rows (λ q. not (f q)) ps p)) (covered-same a h) low
       ∙ ap (λ y. covered ks ls set k && not y) none
       ∙ twice (covered ks ls set k) (eachKind (λ m. not (covered ks ls set m && descends ls k m) || eqb m k) ks)

@@ -70,8 +70,7 @@ module _ (test : ℕ → Bool) (kinds : List Kind) (i : ℕ) (d : Kind) (lt : i 
       let more = names-more e in
       let low : lowBits x ≡ x = omega arith in
       let written : set (paste old 1 names n) (1 + n) (wordOf Name x) ≡ paste old 1 (names ++ wordOf Name x ∷ []) (n + 1) =
-          paste-one old names 1 n (wordOf Name x) (so .0) (omega (arith, ap length (so .1))) (omega arith) in
-      (
+      paste-one old names 1 n (wordOf Name x) (so .0) (omega (arith, ap length (so .1))) (omega arith) in (
         omega (arith, so .0, ap length more, length-push names (wordOf Name x)),
         g ∙ ap₂ (λ (ys : List ℕ) (y : ℕ). set ys (1 + n) y) (so .1) (w ∙ ap (wordOf Name) low) ∙ written
             ∙ ap₂ (λ (ys : List ℕ) (m : ℕ). paste old 1 ys m) (sym more) (sym f),
@@ -81,8 +80,7 @@ module _ (test : ℕ → Bool) (kinds : List Kind) (i : ℕ) (d : Kind) (lt : i 
   pub written-same : (old answer answer′ : List ℕ) (n n′ : ℕ) → Written old i answer n → test (getD kinds i d .place) ≡ false →
       n′ ≡ n → answer′ ≡ answer → Written old (i + 1) answer′ n′
   written-same old answer answer′ n n′ so e f g =
-      let same = names-same e in
-      (
+      let same = names-same e in (
         f ∙ so .0 ∙ ap length (sym same),
         g ∙ so .1 ∙ ap₂ (λ (ys : List ℕ) (m : ℕ). paste old 1 ys m) (sym same) (sym f),
       )

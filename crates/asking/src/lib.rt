@@ -2,7 +2,10 @@
 mod answer;
 mod checks;
 mod decode;
+mod fit_names;
+mod fitting;
 mod naming;
 mod row_names;
 
 pub use answer::ask;
+pub use fitting::fit;

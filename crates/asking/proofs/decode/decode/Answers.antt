@@ -38,9 +38,9 @@ returns g c =
     let out = s .means (c .complement .last .self) in
     let outside : ℕ → Bool = λ p. not (s .reads (c .args .set) p) in
     let right : namesOf (chosen (s .width) (setsOf s table) out (s .means (c .lying-below-below .result))) kinds ≡ decoded s kinds table (c .args .set) =
-        ap (λ test. namesOf test kinds)
-        (fun-ext (chosen-alike (s .width) (setsOf s table) out outside (s .means (c .lying-below-below .result)) (placesOf kinds)
-        (λ p h. c .complement .ensures p h ∙ ap not (c .read-outside .ensures .set p h)) (c .lying-below-below .ensures))) in
+    ap (λ test. namesOf test kinds)
+    (fun-ext (chosen-alike (s .width) (setsOf s table) out outside (s .means (c .lying-below-below .result)) (placesOf kinds)
+    (λ p h. c .complement .ensures p h ∙ ap not (c .read-outside .ensures .set p h)) (c .lying-below-below .ensures))) in
     let names = decoded s kinds table (c .args .set) in
     let many : n ≡ length names = c .write-names-count .ensures .count ∙ ap length right in
     let few = names-few (chosen (s .width) (setsOf s table) out (s .means (c .lying-below-below .result))) kinds in

@@ -49,15 +49,15 @@ loop-kind-again g c =
     elim (c .if-is-covered .came) [
       | then-is-covered w ↦
           λ p h.
-            ap (λ b. s .means b p) (w .below-is)
-            ∙ w .join-others .ensures p h
-            ∙ ap (λ b. b || (s .reads row p && not (eqb p q))) (c .loop-kind .inv p h)
-            ∙ sym (below-joined s table out (placesOf kinds) i row q lt here inside (c .index-table-kind .is) (sym (w .if-is-covered .ensures tt)) p)
+          ap (λ b. s .means b p) (w .below-is)
+          ∙ w .join-others .ensures p h
+          ∙ ap (λ b. b || (s .reads row p && not (eqb p q))) (c .loop-kind .inv p h)
+          ∙ sym (below-joined s table out (placesOf kinds) i row q lt here inside (c .index-table-kind .is) (sym (w .if-is-covered .ensures tt)) p)
       | else-is-covered w ↦
           λ p h.
-            ap (λ b. s .means b p) (w .below-is)
-            ∙ c .loop-kind .inv p h
-            ∙ sym (below-left s table out (placesOf kinds) i row q lt here inside (c .index-table-kind .is) (sym (w .if-is-covered .ensures tt)) p)
+          ap (λ b. s .means b p) (w .below-is)
+          ∙ c .loop-kind .inv p h
+          ∙ sym (below-left s table out (placesOf kinds) i row q lt here inside (c .index-table-kind .is) (sym (w .if-is-covered .ensures tt)) p)
     ]
 
 pub returns : need.returns

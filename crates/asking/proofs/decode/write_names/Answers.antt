@@ -82,7 +82,7 @@ loop-kind-again g c =
     let small = each-below (λ k. k .serial) (2 ^ 28) kinds i none (st .serials) lt in
     let inside : q < length table = omega (arith, low, c .pre .rows) in
     let tested : test q ≡ (apart (s .width) (s .reads row) out && not (ltb q (s .width) && below q)) =
-        ap (λ f. apart (s .width) f out && not (ltb q (s .width) && below q)) (row-is s table q row inside (c .index-table-kind .is)) in
+    ap (λ f. apart (s .width) f out && not (ltb q (s .width) && below q)) (row-is s table q row inside (c .index-table-kind .is)) in
     let few = names-upto test kinds i none lt in
     elim (c .if-is-chosen .came) [
       | then-is-chosen w ↦

@@ -22,9 +22,9 @@ loop-kind-again g c =
     let lt : i < length (placesOf kinds) = omega (arith, length-map kinds (λ k. k .place), c .loop-kind-test .taken) in
     let here = getD-map (λ k. k .place) kinds i none 0 (c .loop-kind-test .taken) in
     λ p h.
-      put-any s (c .loop-kind .all) (c .put .last .self) q (c .put .result) (c .put .ensures) p h
-      ∙ ap (λ b. b || eqb q p) (c .loop-kind .inv p h)
-      ∙ sym (stands-more p (placesOf kinds) i lt ∙ ap (λ j. stands p (take i (placesOf kinds)) || eqb j p) here)
+    put-any s (c .loop-kind .all) (c .put .last .self) q (c .put .result) (c .put .ensures) p h
+    ∙ ap (λ b. b || eqb q p) (c .loop-kind .inv p h)
+    ∙ sym (stands-more p (placesOf kinds) i lt ∙ ap (λ j. stands p (take i (placesOf kinds)) || eqb j p) here)
 
 pub returns : need.returns
 returns g c =
@@ -32,7 +32,7 @@ returns g c =
     let kinds = c .args .standing .now .kinds .now in
     let all = take-all (c .loop-kind .kind-index) (placesOf kinds) (omega (arith, length-map kinds (λ k. k .place), c .loop-kind-test .left)) in
     λ p h.
-      ap (λ r. s .reads r p) (c .write .ensures)
-      ∙ g .C·Truth·met .lawful .back (c .loop-kind .all) p h
-      ∙ c .loop-kind .inv p h
-      ∙ ap (stands p) all
+    ap (λ r. s .reads r p) (c .write .ensures)
+    ∙ g .C·Truth·met .lawful .back (c .loop-kind .all) p h
+    ∙ c .loop-kind .inv p h
+    ∙ ap (stands p) all
