@@ -1,2 +1,7 @@
 pub mod Covering
-pub mod Naming
+pub mod Written
+pub mod Seats
+pub mod Uppermost
+pub mod Values
+pub mod Refused
+pub mod Asked

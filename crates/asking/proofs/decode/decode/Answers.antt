@@ -13,7 +13,7 @@ use Rattle.closing.specs.Direct.{placesOf}
 use Rattle.catalogue.proofs.Keeping.{headed}
 use Rattle.asking.specs.Decoding.{chosen, namesOf, decoded}
 use Rattle.asking.proofs.Covering.{chosen-alike}
-use Rattle.asking.proofs.Naming.{names-few}
+use Rattle.asking.proofs.Written.{names-few}
 use Rattle.asking.proofs.decode.decode.Needs as need
 
 pub cast-count : need.cast-count

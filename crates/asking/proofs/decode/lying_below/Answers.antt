@@ -10,7 +10,7 @@ use Rattle.closing.specs.Tables.{setsOf}
 use Rattle.closing.specs.Direct.{placesOf}
 use Rattle.asking.specs.Decoding.{belowCovered}
 use Rattle.asking.proofs.Covering.{below-joined, below-left}
-use Rattle.asking.proofs.Naming.{each-below}
+use Rattle.asking.proofs.Written.{each-below}
 use Rattle.asking.proofs.decode.lying_below.Needs as need
 use Rattle.asking.proofs.decode.lying_below.Needs.{then-is-covered, else-is-covered}
 

@@ -12,7 +12,7 @@ use Rattle.descent.specs.declared.kind.Kind.{Kind}
 use Rattle.closing.specs.Tables.{setsOf}
 use Rattle.asking.specs.Decoding.{apart, chosen, namesOf}
 use Rattle.asking.proofs.Covering.{row-is}
-use Rattle.asking.proofs.Naming.{each-below, names-upto, written-more, written-same}
+use Rattle.asking.proofs.Written.{each-below, names-upto, written-more, written-same}
 use Rattle.asking.proofs.decode.write_names.Needs as need
 use Rattle.asking.proofs.decode.write_names.Needs.{then-is-chosen, else-is-chosen}
 

@@ -1,0 +1,43 @@
+// What is checked before a question is looked at: the lists that are handed in, and that the catalogue is closed.
+ghost use Rattle.words.specs.Refusals.{Says, questionTold};
+ghost use Rattle.catalogue.specs.View.{view};
+ghost use Rattle.asking.specs.Asking.{askRefusal, fitRefusal};
+use catalogue::Catalogue;
+use words::QuestionFault;
+use words::QuestionFromList;
+use words::need;
+
+// The working values that a question may need.
+const WORKING: usize = 32;
+
+pub(super) fn check_ask(
+    catalogue: &Catalogue,
+    table: usize,
+    answer: usize,
+    working: usize,
+) -> Result<(), QuestionFault>
+    ensures { λ r. ⌜ Says questionTold r (askRefusal (view (now (catalogue .entry)) .book) table answer working) ⌝ }
+{
+    need(table, catalogue.width())?;
+    need(answer, catalogue.width() + 1)?;
+    need(working, WORKING)?;
+    if !catalogue.is_closed() {
+        return Err(QuestionFault::Open);
+    }
+    Ok(())
+}
+
+pub(super) fn check_fit(
+    catalogue: &Catalogue,
+    table: usize,
+    working: usize,
+) -> Result<(), QuestionFault>
+    ensures { λ r. ⌜ Says questionTold r (fitRefusal (view (now (catalogue .entry)) .book) table working) ⌝ }
+{
+    need(table, catalogue.width())?;
+    need(working, WORKING)?;
+    if !catalogue.is_closed() {
+        return Err(QuestionFault::Open);
+    }
+    Ok(())
+}
