@@ -6,7 +6,6 @@ use native.Mathlib.Omega.{arith}
 use lib.ListN.{length, take, drop, set}
 use Rattle.std.specs.Of.Vec.{vec-items}
 use Rattle.std.specs.shelf.Lists.{kept-by, paste}
-use Rattle.std.proofs.shelf.Edits.{paste-all}
 use Rattle.std.proofs.shelf.Lists.{length-map, take-all, take-rest}
 use Rattle.std.proofs.shelf.Tests.{ltb-false}
 use Rattle.descent.specs.Lines.{stands}
