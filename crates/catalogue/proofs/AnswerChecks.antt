@@ -1,24 +1,24 @@
 -- Words that are an answer, or are none.
-use mathlib.Core.Path.{_≡_, refl, sym, ap, ap₂, _∙_}
-use mathlib.Core.List.{List, [], _∷_, map}
-use mathlib.Core.Bool.{Bool, true, false, not, _&&_}
-use Prim.Native.Nat.{ℕ, zero, suc, _+_, _*_, _/_, _%_, _^_, _<_, _≤_}
+use mathlib.Core.Path.{_≡_, refl, sym, ap, _∙_}
+use mathlib.Core.List.{List, [], _∷_}
+use mathlib.Core.Bool.{true, not}
+use Prim.Native.Nat.{ℕ, zero, suc, _+_, _<_, _≤_}
 use native.Mathlib.Omega.{arith}
-use lib.Dec.{ltb, leb, eqb}
+use lib.Dec.{ltb, leb}
 use lib.ListN.{length, getD, take, drop}
 use Rattle.std.specs.declared.option.Option.{Option}
 use Rattle.std.specs.declared.option.Option.the-variants.{Some, None}
-use Rattle.std.proofs.shelf.Lists.{length-drop, drop-all, take-all}
-use Rattle.std.proofs.shelf.Tests.{and-from, lt-ltb, leb-false, not-false, not-from-true, eqb-true}
+use Rattle.std.proofs.shelf.Lists.{drop-all, take-all}
+use Rattle.std.proofs.shelf.Tests.{and-from, lt-ltb, leb-false, not-from-true}
 use Rattle.descent.specs.Order.{risingFrom}
 use Rattle.words.specs.declared.refusal.Refusal.{Refusal}
 use Rattle.words.specs.declared.refusal.NamesFault.{NamesFault}
 use Rattle.words.specs.declared.refusal.NamesFault.the-variants as names
 use Rattle.words.specs.declared.word.WordKind.the-variants.{Name, AnswerHead}
-use Rattle.words.specs.Words.{kindNumber, lowBits, isKind, wordOf}
-use Rattle.words.specs.Refusals.{refuseIf, firstOf, serialRefusal, answerTold, answerOfNames, imageTold, imageOfNames, namesTold}
+use Rattle.words.specs.Words.{lowBits, isKind}
+use Rattle.words.specs.Refusals.{refuseIf, serialRefusal, answerTold, answerOfNames, imageTold, imageOfNames, namesTold}
 use Rattle.catalogue.specs.Formats.{nameRefusal, namesRefusal, nothingDue, notAnswer, notDue, answerRefusal, serialsIn}
-use Rattle.catalogue.proofs.Chain.{passes, last-check, stops, unrefused, all-pass, not-refused, good-serial}
+use Rattle.catalogue.proofs.Chain.{passes, last-check, stops, unrefused, all-pass, not-refused}
 
 -- a fault in a run of names tells the same as a fault of the answer or the image that has the run
 pub names-answer : (f : NamesFault) → namesTold notAnswer f ≡ answerTold (answerOfNames f)

@@ -7,7 +7,7 @@ use Rattle.std.specs.declared.option.Option.the-variants.{Some, None}
 use Rattle.words.specs.declared.refusal.Refusal.{Refusal}
 use Rattle.std.proofs.shelf.Tests.{or-parts, eqb-false, ltb-false}
 use Rattle.words.specs.Refusals.{firstOf, refuseIf, badSerial, serialRefusal}
-use Prim.Native.Nat.{ℕ, _<_, _≤_, _^_}
+use Prim.Native.Nat.{ℕ, _<_, _^_}
 use native.Mathlib.Omega.{arith}
 use lib.Dec.{eqb, ltb}
 

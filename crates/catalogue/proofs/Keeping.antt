@@ -1,7 +1,7 @@
 -- What a test keeps of a rising row: it rises, and holds no more numbers than there are to pass.
 use mathlib.Core.Path.{_≡_, refl, sym, ap, _∙_}
-use mathlib.Core.List.{List, [], _∷_, _++_, map}
-use mathlib.Core.Bool.{Bool, true, false, cond, _&&_, _||_}
+use mathlib.Core.List.{List, [], _∷_, _++_}
+use mathlib.Core.Bool.{Bool, true, cond}
 use mathlib.Core.Logic.{⊎-elim}
 use Prim.Native.Nat.{ℕ, zero, suc, _+_, _<_, _≤_}
 use native.Mathlib.Omega.{arith}
@@ -10,8 +10,8 @@ use lib.ListN.{length, getD, take, drop, set}
 use Rattle.std.specs.shelf.Lists.{All, kept-by, paste}
 use Rattle.std.proofs.shelf.Edits.{paste-paste, paste-all}
 use Rattle.std.proofs.shelf.Elements.{all-weaker, kept-by-more, kept-by-passes}
-use Rattle.std.proofs.shelf.Lists.{append-assoc, set-split, take-map, getD-map, map-append, map-push, length-map}
-use Rattle.std.proofs.shelf.Tests.{and-parts, and-from, or-cases, ltb-true, lt-ltb, eqb-true, cond-both, false≢true, cases-eq}
+use Rattle.std.proofs.shelf.Lists.{append-assoc, set-split, take-map, getD-map, length-map}
+use Rattle.std.proofs.shelf.Tests.{and-parts, and-from, or-cases, ltb-true, lt-ltb, eqb-true, cond-both, false≢true}
 use native.Mathlib.Numerals.{add-one}
 use Rattle.descent.specs.Lines.{stands}
 use Rattle.descent.specs.Order.{risingFrom}
@@ -33,7 +33,7 @@ rising-take a zero xs r = refl
 rising-take a (suc n) [] r = refl
 rising-take a (suc n) (x ∷ xs) r = let p = and-parts (ltb a x) (risingFrom x xs) r in and-from (ltb a x) (risingFrom x (take n xs)) (p .0) (rising-take x n xs (p .1))
 
-stands-above : (a : ℕ) (xs : List ℕ) (x : ℕ) → risingFrom a xs ≡ true → stands x xs ≡ true → a < x
+pub stands-above : (a : ℕ) (xs : List ℕ) (x : ℕ) → risingFrom a xs ≡ true → stands x xs ≡ true → a < x
 stands-above a [] x r s = absurd (false≢true s)
 stands-above a (y ∷ ys) x r s =
     let p = and-parts (ltb a y) (risingFrom y ys) r in

@@ -1,7 +1,7 @@
 -- What entering and withdrawing a kind keep true of the kinds, their places and the lines.
-use mathlib.Core.Path.{_≡_, refl, sym, ap, subst, _∙_}
+use mathlib.Core.Path.{_≡_, sym, ap, subst, _∙_}
 use mathlib.Core.List.{List, [], _∷_, _++_, map}
-use mathlib.Core.Bool.{Bool, true, false, not, _||_}
+use mathlib.Core.Bool.{Bool, true, false, not}
 use mathlib.Core.Logic.{⊎-elim}
 use Prim.Native.Nat.{ℕ, _+_, _<_, _≤_}
 use native.Mathlib.Omega.{arith}
@@ -18,7 +18,7 @@ use Rattle.catalogue.specs.declared.search.Spot.{Spot}
 use Rattle.catalogue.specs.declared.search.Spot.the-variants.{Here, Gap}
 use Rattle.descent.specs.Order.{risingFrom}
 use Rattle.catalogue.specs.Order.{filed, Located}
-use Rattle.descent.specs.Proper.{below, distinct, joining}
+use Rattle.descent.specs.Proper.{below, joining}
 use Rattle.catalogue.specs.Proper.{seated}
 use Rattle.catalogue.specs.Seats.{Seated, Freed}
 use Rattle.catalogue.proofs.Rising.{rising-at, rising-inserted, rising-removed, gap-filed, left-out}

@@ -8,3 +8,9 @@ pub mod LineEdits
 pub mod NameRuns
 pub mod Keeping
 pub mod AnswerChecks
+pub mod Writing
+pub mod ImageChecks
+pub mod ImagePassed
+pub mod Filling
+pub mod ImageLaws
+pub mod ClosingMoves

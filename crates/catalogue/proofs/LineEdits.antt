@@ -1,21 +1,21 @@
 -- What entering and withdrawing a line keep true of the lines.
-use mathlib.Core.Path.{_≡_, refl, sym, ap, ap₂, subst, _∙_}
-use mathlib.Core.List.{List, [], _∷_, _++_, map}
-use mathlib.Core.Bool.{Bool, true, false, not, _&&_, _||_}
+use mathlib.Core.Path.{_≡_, refl, sym, ap₂, subst, _∙_}
+use mathlib.Core.List.{List, [], _∷_, map}
+use mathlib.Core.Bool.{Bool, true, false, not, _&&_}
 use mathlib.Core.Logic.{⊎-elim}
 use Prim.Native.Nat.{ℕ, zero, suc, _+_, _*_, _^_, _<_, _≤_}
 use native.Mathlib.Omega.{arith}
 use lib.Dec.{eqb, ltb}
-use lib.ListN.{length, getD, take, drop}
+use lib.ListN.{length, getD}
 use Rattle.std.specs.Holes.{inserted, removed}
 use Rattle.std.specs.shelf.Lists.{kept-by}
-use Rattle.std.proofs.shelf.Lists.{length-map, getD-map, getD-default}
-use Rattle.std.proofs.shelf.Tests.{and-parts, and-from, and-left, and-right, or-from, or-left, or-right, eqb-true, eq-eqb, ne-eqb, ltb-true, not-false, not-from-true, not-from-false, cases-eq, cases-lt, cases-bool}
+use Rattle.std.proofs.shelf.Lists.{length-map, getD-map}
+use Rattle.std.proofs.shelf.Tests.{and-parts, and-from, or-from, or-left, or-right, eqb-true, eq-eqb, ltb-true, not-false, not-from-true, not-from-false, cases-lt, cases-bool}
 use Rattle.descent.specs.declared.line.Line.{Line}
 use Rattle.descent.specs.Lines.{stands, hasLine}
 use Rattle.catalogue.specs.declared.search.Spot.the-variants.{Here, Gap}
 use Rattle.descent.specs.Order.{risingFrom, lineKey}
-use Rattle.catalogue.specs.Order.{filed, Located}
+use Rattle.catalogue.specs.Order.{Located}
 use Rattle.descent.specs.Proper.{below, joins, joining}
 use Rattle.std.specs.declared.option.Option.the-variants.{None}
 use Rattle.catalogue.specs.declared.search.Spot.{Spot}
@@ -24,8 +24,7 @@ use Rattle.words.specs.declared.refusal.Refusal.{Refusal}
 use Rattle.words.specs.declared.refusal.Part.the-variants as part
 use Rattle.words.specs.Refusals.{refusal, refuseIf, serialRefusal}
 use Rattle.catalogue.proofs.Chain.{all-pass, not-refused, good-serial}
-use Rattle.catalogue.proofs.Rising.{rising-at, rising-inserted, rising-removed, gap-filed, left-out}
-use Rattle.catalogue.proofs.Rows.{map-inserted, map-removed}
+use Rattle.catalogue.proofs.Rising.{rising-at, left-out}
 
 pub joining-inserted : (ks : List ℕ) (ls : List Line) (i : ℕ) (l : Line) → joins ks l ≡ true → joining ks ls ≡ true → joining ks (inserted ls i l) ≡ true
 joining-inserted ks [] zero l p h = and-from (joins ks l) true p refl

@@ -1,12 +1,11 @@
 -- A call that is refused stays, and one that is accepted goes on.
 use mathlib.Core.Path.{_≡_, refl, sym, ap, _∙_}
-use mathlib.Core.Bool.{Bool, true, false}
 use Rattle.std.specs.declared.option.Option.{Option}
 use Rattle.std.specs.declared.option.Option.the-variants.{Some, None}
 use Rattle.std.specs.declared.result.Result.the-variants.{Ok, Err}
 use Rattle.std.proofs.shelf.Tests.{false≢true}
 use Rattle.words.specs.declared.refusal.Refusal.{Refusal}
-use Rattle.catalogue.specs.Ledger.{Ledger, Call, refused, accepted, unless}
+use Rattle.catalogue.specs.Ledger.{Call, refused, accepted, unless}
 use Rattle.catalogue.specs.View.{View, Moved}
 
 pub stays : {T F : Type 0} (told : F → Refusal) (call : Call) (v : View) (f : F) → refused (v .book) call ≡ Some (told f) → Moved {T = T} told call v v (Err f)

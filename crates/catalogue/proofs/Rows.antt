@@ -1,20 +1,21 @@
 -- Rows of numbers where one is put in or taken out.
-use mathlib.Core.Path.{_≡_, refl, sym, ap, ap₂, subst, _∙_}
+use mathlib.Core.Path.{_≡_, refl, sym, ap, ap₂, _∙_}
 use mathlib.Core.List.{List, [], _∷_, _++_, map}
 use mathlib.Core.Bool.{Bool, true, false, not, _&&_, _||_}
 use mathlib.Core.Logic.{⊎-elim}
-use Prim.Native.Nat.{ℕ, zero, suc, _+_, _<_, _≤_}
+use Prim.Native.Nat.{ℕ, zero, suc, _<_, _≤_}
 use native.Mathlib.Omega.{arith}
 use lib.Dec.{eqb, ltb}
-use lib.ListN.{length, getD, take, drop}
+use lib.ListN.{take, drop}
 use Rattle.std.specs.Holes.{inserted, removed}
 use Rattle.std.proofs.shelf.Lists.{map-append, take-map, drop-map, take-append-drop}
-use Rattle.std.proofs.shelf.Tests.{and-parts, and-from, or-from, or-left, or-right, eq-eqb, ne-eqb, lt-ltb, cases-lt, cases-eq, true≢false, false≢true}
+use Rattle.std.proofs.shelf.Tests.{and-parts, and-from, or-left, or-right, eq-eqb, ne-eqb, lt-ltb, cases-lt, cases-eq, true≢false, false≢true}
 use Rattle.descent.specs.declared.line.Line.{Line}
 use Rattle.descent.specs.Lines.{stands, mentioned}
 use Rattle.catalogue.specs.declared.search.Spot.the-variants.{Here, Gap}
 use Rattle.catalogue.specs.Order.{Located}
 use Rattle.descent.specs.Proper.{below, distinct, joining}
+use Rattle.descent.proofs.Lines.{stands-found, stands-none, stands-append}
 
 pub map-inserted : {X Y : Type 0} (f : X → Y) (xs : List X) (i : ℕ) (x : X) → map f (inserted xs i x) ≡ inserted (map f xs) i (f x)
 map-inserted f xs i x =
@@ -25,37 +26,19 @@ pub map-removed : {X Y : Type 0} (f : X → Y) (xs : List X) (i : ℕ) → map f
 map-removed f xs i =
     map-append f (take i xs) (drop (suc i) xs) ∙ sym (ap₂ (λ us vs. us ++ vs) (take-map f i xs) (drop-map f (suc i) xs))
 
--- which numbers stand in a row
-pub stands-at : (xs : List ℕ) (x i : ℕ) → i < length xs → getD xs i 0 ≡ x → stands x xs ≡ true
-stands-at [] x i l e = absurd (omega arith)
-stands-at (y ∷ ys) x zero l e = or-left (eqb y x) (stands x ys) (eq-eqb y x e)
-stands-at (y ∷ ys) x (suc i) l e = or-right (eqb y x) (stands x ys) (stands-at ys x i (omega arith) e)
-
-pub stands-not : (xs : List ℕ) (x : ℕ) → ((k : ℕ) → k < length xs → getD xs k 0 ≡ x → ⊥) → stands x xs ≡ false
-stands-not [] x none = refl
-stands-not (y ∷ ys) x none =
-    or-from (eqb y x) (stands x ys) (ne-eqb y x (none 0 (omega arith))) (stands-not ys x (λ k l. none (suc k) (omega arith)))
-
+-- what a look into a row tells of the number
 pub here-stands : (xs : List ℕ) (x i : ℕ) → Located xs x (Here i) → stands x xs ≡ true
-here-stands xs x i h = stands-at xs x i (h .0) (h .1)
+here-stands xs x i h = stands-found x xs i (h .0) (h .1)
 
 pub gap-stands : (xs : List ℕ) (x i : ℕ) → Located xs x (Gap i) → stands x xs ≡ false
 gap-stands xs x i h =
-    stands-not xs x
+    stands-none x xs
     (λ k l e. ⊎-elim (λ (lt : k < i). omega (arith, h .1 k lt)) (λ (ge : i ≤ k). omega (arith, h .2 k ge l)) (cases-lt k i))
-
-pub stands-append : (xs ys : List ℕ) (x : ℕ) → stands x (xs ++ ys) ≡ (stands x xs || stands x ys)
-stands-append [] ys x = refl
-stands-append (y ∷ xs) ys x = ap (λ (b : Bool). eqb y x || b) (stands-append xs ys x) ∙ or-assoc (eqb y x) (stands x xs) (stands x ys)
-  where
-    or-assoc : (a b c : Bool) → (a || (b || c)) ≡ ((a || b) || c)
-    or-assoc true b c = refl
-    or-assoc false b c = refl
 
 -- a number in the middle of a row may as well stand first
 pub stands-middle : (xs ys : List ℕ) (y x : ℕ) → stands x (xs ++ y ∷ ys) ≡ stands x (y ∷ (xs ++ ys))
 stands-middle xs ys y x =
-    stands-append xs (y ∷ ys) x ∙ or-swap (stands x xs) (eqb y x) (stands x ys) ∙ sym (ap (λ (b : Bool). eqb y x || b) (stands-append xs ys x))
+    stands-append x xs (y ∷ ys) ∙ or-swap (stands x xs) (eqb y x) (stands x ys) ∙ sym (ap (λ (b : Bool). eqb y x || b) (stands-append x xs ys))
   where
     or-swap : (a b c : Bool) → (a || (b || c)) ≡ (b || (a || c))
     or-swap true true c = refl

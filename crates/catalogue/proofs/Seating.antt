@@ -1,20 +1,21 @@
 -- The places stay the places below the width, each once.
-use mathlib.Core.Path.{_≡_, refl, sym, ap, ap₂, subst, _∙_}
-use mathlib.Core.List.{List, [], _∷_, _++_, map}
+use mathlib.Core.Path.{_≡_, refl, sym, ap, ap₂, _∙_}
+use mathlib.Core.List.{List, [], _∷_, _++_}
 use mathlib.Core.Bool.{Bool, true, false, not, _&&_}
 use Prim.Native.Nat.{ℕ, zero, suc, _+_, _<_, _≤_}
 use native.Mathlib.Omega.{arith}
 use lib.Dec.{eqb, ltb}
 use lib.ListN.{length, getD, take, drop}
 use Rattle.std.specs.Holes.{inserted, removed}
-use Rattle.std.proofs.shelf.Lists.{append-assoc, append-nil, length-append, take-append-drop, map-id}
+use Rattle.std.proofs.shelf.Lists.{append-assoc, append-nil, length-append, take-append-drop, take-all, drop-all, map-id}
 use Rattle.descent.specs.Proper.{below, distinct}
 use Rattle.catalogue.specs.Proper.{seated}
 use Rattle.std.specs.Iters.{counting}
 use Rattle.std.proofs.shelf.Counted.{length-counting, map-counting-more}
 use Rattle.std.proofs.shelf.Tests.{and-from, and-parts, or-from, or-parts, not-true, not-from-false, ne-eqb, eq-eqb, lt-ltb}
 use Rattle.descent.specs.Lines.{stands}
-use Rattle.catalogue.proofs.Rows.{stands-append, below-middle, distinct-middle}
+use Rattle.catalogue.proofs.Rows.{below-middle, distinct-middle}
+use Rattle.descent.proofs.Lines.{stands-append}
 
 length-middle : (xs ys : List ℕ) (y : ℕ) → length (xs ++ y ∷ ys) ≡ length (y ∷ (xs ++ ys))
 length-middle xs ys y = omega (arith, length-append xs (y ∷ ys), length-append xs ys)
@@ -32,6 +33,13 @@ seated-inserted w xs free free′ i p e h =
     ∙ ap (λ (ys : List ℕ). seated w (p ∷ ys)) (append-nil (xs ++ free′))) ∙ h in
     ap (seated w) (append-assoc (take i xs) (p ∷ drop i xs) free′) ∙ seated-middle w (take i xs) (drop i xs ++ free′) p
     ∙ ap (λ (ys : List ℕ). seated w (p ∷ ys)) (sym (append-assoc (take i xs) (drop i xs) free′) ∙ ap (λ (ys : List ℕ). ys ++ free′) (take-append-drop i xs)) ∙ front
+
+-- the last place moves to the kind that is put in behind the others
+pub seated-pushed : (w : ℕ) (xs free free′ : List ℕ) (p : ℕ) → free ≡ free′ ++ p ∷ [] → seated w (xs ++ free) ≡ true → seated w ((xs ++ p ∷ []) ++ free′) ≡ true
+seated-pushed w xs free free′ p e h =
+    let whole : take (length xs) xs ≡ xs = take-all (length xs) xs (omega arith) in
+    let none : drop (length xs) xs ≡ [] = drop-all (length xs) xs (omega arith) in
+    sym (ap₂ (λ (us vs : List ℕ). seated w ((us ++ p ∷ vs) ++ free′)) whole none) ∙ seated-inserted w xs free free′ (length xs) p e h
 
 -- the place of a kind that is taken out moves to the end
 pub seated-removed : (w : ℕ) (xs free free′ : List ℕ) (i p : ℕ) → i < length xs → getD xs i 0 ≡ p → free′ ≡ free ++ p ∷ [] → seated w (xs ++ free) ≡ true → seated w (removed xs i ++ free′) ≡ true
@@ -78,7 +86,7 @@ distinct-front : (xs ys : List ℕ) → distinct (xs ++ ys) ≡ true → distinc
 distinct-front [] ys h = refl
 distinct-front (x ∷ xs) ys h =
     let p = and-parts (not (stands x (xs ++ ys))) (distinct (xs ++ ys)) h in
-    let q = or-parts (stands x xs) (stands x ys) (sym (stands-append xs ys x) ∙ not-true (stands x (xs ++ ys)) (p .0)) in
+    let q = or-parts (stands x xs) (stands x ys) (sym (stands-append x xs ys) ∙ not-true (stands x (xs ++ ys)) (p .0)) in
     and-from (not (stands x xs)) (distinct xs) (not-from-false (stands x xs) (q .0)) (distinct-front xs ys (p .1))
 
 -- each kind's place is below the width, and its own

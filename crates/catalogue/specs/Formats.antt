@@ -4,7 +4,7 @@ use mathlib.Core.List.{List, [], _∷_, _++_, map}
 use mathlib.Core.Bool.{Bool, cond, not}
 use Prim.Native.Nat.{ℕ, zero, suc, _+_, _*_}
 use lib.Dec.{eqb, ltb, leb}
-use lib.ListN.{length, take, drop}
+use lib.ListN.{length, getD, take, drop}
 use Rattle.std.specs.shelf.Lists.{joined}
 use Rattle.std.specs.declared.option.Option.{Option}
 use Rattle.std.specs.declared.option.Option.the-variants.{Some, None}
@@ -86,13 +86,13 @@ answerRefusal (h ∷ ws) =
 abbrev pub namedIn : List ℕ → List ℕ
 namedIn ws = serialsIn (drop 1 ws)
 
+-- the serial in the word at index i as that of one of these kinds
+abbrev pub namedRefusal : List ℕ → ℕ → ℕ → Option Refusal
+namedRefusal kinds i x = firstOf (serialRefusal x i ∷ refuseIf (not (stands x kinds)) (refusal 5 i part.Kind) ∷ [])
+
 -- the word at index i as the child of a line between these kinds
 abbrev pub childRefusal : List ℕ → ℕ → ℕ → Option Refusal
-childRefusal kinds i c =
-    firstOf (refuseIf (not (isKind Child c)) (notDue i)
-    ∷ serialRefusal (lowBits c) i
-    ∷ refuseIf (not (stands (lowBits c) kinds)) (refusal 5 i part.Kind)
-    ∷ [])
+childRefusal kinds i c = firstOf (refuseIf (not (isKind Child c)) (notDue i) ∷ namedRefusal kinds i (lowBits c) ∷ [])
 
 -- the line that two words stand for
 abbrev pub lineIn : ℕ → ℕ → Line
@@ -102,8 +102,7 @@ lineIn c p = record { child = lowBits c; parent = lowBits p }
 abbrev pub parentRefusal : List ℕ → ℕ → ℕ → ℕ → ℕ → ℕ → Option Refusal
 parentRefusal kinds n last i c p =
     firstOf (refuseIf (not (isKind Parent p)) (notDue i)
-    ∷ serialRefusal (lowBits p) i
-    ∷ refuseIf (not (stands (lowBits p) kinds)) (refusal 5 i part.Kind)
+    ∷ namedRefusal kinds i (lowBits p)
     ∷ refuseIf (eqb (lowBits c) (lowBits p)) (refusal 7 i part.Line)
     ∷ refuseIf (leb 2048 n) (refusal 9 i part.Line)
     ∷ refuseIf (leb (lineKey (lineIn c p)) last) (notDue i)
@@ -124,6 +123,10 @@ linesRefusal kinds n last i (c ∷ p ∷ ws) =
     ∷ parentRefusal kinds n last (i + 1) c p
     ∷ linesRefusal kinds (n + 1) (lineKey (lineIn c p)) (i + 2) ws
     ∷ []))
+
+-- how many kinds the head of an image counts
+abbrev pub countIn : List ℕ → ℕ
+countIn ws = lowBits (getD ws 0 0)
 
 -- the kinds and the lines in the words of an image
 abbrev pub kindsIn : List ℕ → List ℕ

@@ -1,7 +1,10 @@
-// A catalogue of kinds and lines: entering, withdrawing, its image, and recalling kept answers.
+// A catalogue of kinds and lines: entering, withdrawing, closing, its image, and recalling kept answers.
+mod close;
 mod enter;
+mod image;
 mod lookup;
 mod names;
+mod read_image;
 mod recall;
 mod search;
 mod state;

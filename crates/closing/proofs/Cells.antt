@@ -91,24 +91,24 @@ module _ {S R : Type 0} (s : Sort S R) where
         Stepping w k old (setsOf s (set table i x)) (i + 1)
     step-joins x lt has joined = (
       λ a b ha hb.
-        elim (cases-eq a i) [
-          | inl e ↦
-              let here = done .1 i b (omega arith) in
-              let met : cell old i k ≡ true = sym (done .1 i k (omega arith)) ∙ has in
-              rw (e, met, ← here) (cell-written table i b x lt ∙ joined b hb)
-          | inr ne ↦ cell-kept table i a b x ne ∙ done .0 a b (omega arith) hb
-        ],
+          elim (cases-eq a i) [
+            | inl e ↦
+                let here = done .1 i b (omega arith) in
+                let met : cell old i k ≡ true = sym (done .1 i k (omega arith)) ∙ has in
+                rw (e, met, ← here) (cell-written table i b x lt ∙ joined b hb)
+            | inr ne ↦ cell-kept table i a b x ne ∙ done .0 a b (omega arith) hb
+          ],
       λ a b ha. let ne : a ≢ i = omega arith in cell-kept table i a b x ne ∙ done .1 a b (omega arith),
     )
 
     pub step-leaves : cell (setsOf s table) i k ≡ false → Stepping w k old (setsOf s table) (i + 1)
     step-leaves lacks = (
       λ a b ha hb.
-        elim (cases-eq a i) [
-          | inl e ↦
-              let met : cell old i k ≡ false = sym (done .1 i k (omega arith)) ∙ lacks in
-              rw (e, met) (done .1 i b (omega arith) ∙ or-false (cell old i b))
-          | inr ne ↦ done .0 a b (omega arith) hb
-        ],
+          elim (cases-eq a i) [
+            | inl e ↦
+                let met : cell old i k ≡ false = sym (done .1 i k (omega arith)) ∙ lacks in
+                rw (e, met) (done .1 i b (omega arith) ∙ or-false (cell old i b))
+            | inr ne ↦ done .0 a b (omega arith) hb
+          ],
       λ a b ha. done .1 a b (omega arith),
     )

@@ -93,6 +93,10 @@ linked-some kinds (l ∷ ls) i j h =
       | inr e ↦ let q = linked-some kinds ls i j e in (q .0, q .1, line-later l ls (q .0) (q .1) (q .2), q .3, q .4)
     ]
 
+-- the line at a position, as code reads it
+abbrev pub lineAt : List Line → ℕ → Line
+lineAt ls n = getD ls n (record { child = 0; parent = 0 })
+
 module _ (st : Standing) where
   pub standing-placed : Placed (st .width) (serialsOf (now (st .kinds))) (placesOf (now (st .kinds))) (now (st .lines))
   standing-placed =
@@ -129,12 +133,12 @@ module _ (st : Standing) where
 
   -- the two kinds of a line stand
   pub line-ends : (n : ℕ) → n < length (now (st .lines)) →
-      (stands (getD (now (st .lines)) n (record { child = 0; parent = 0 }) .child) (serialsOf (now (st .kinds))) ≡ true)
-      × (stands (getD (now (st .lines)) n (record { child = 0; parent = 0 }) .parent) (serialsOf (now (st .kinds))) ≡ true)
+      (stands (lineAt (now (st .lines)) n .child) (serialsOf (now (st .kinds))) ≡ true)
+      × (stands (lineAt (now (st .lines)) n .parent) (serialsOf (now (st .kinds))) ≡ true)
   line-ends n lt =
-      let l = getD (now (st .lines)) n (record { child = 0; parent = 0 }) in
+      let l = lineAt (now (st .lines)) n in
       let q = joining-line (serialsOf (now (st .kinds))) (now (st .lines)) (st .joins) (l .child) (l .parent)
-          (line-at (now (st .lines)) n (record { child = 0; parent = 0 }) lt) in
+      (line-at (now (st .lines)) n (record { child = 0; parent = 0 }) lt) in
       (q .0, q .1)
 
   pub direct-right : Direct (st .width) (serialsOf (now (st .kinds))) (placesOf (now (st .kinds))) (now (st .lines))

@@ -1,2 +1,4 @@
 pub mod Tables
 pub mod Direct
+pub mod Marks
+pub mod Closing

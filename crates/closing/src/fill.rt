@@ -35,7 +35,11 @@ fn put_lines<C: Code + Drop>(standing: &Standing<'_>, table: &mut [C::Row])
     ensures beyond { λ _. ⌜ drop (now (standing .entry) .width) (now (table .exit)) ≡ drop (now (standing .entry) .width) (now (table .entry)) ⌝ }
 {
     for line in standing.lines {
-        put::<C>(table, place_of(standing, line.parent), place_of(standing, line.child));
+        put::<C>(
+            table,
+            place_of(standing, line.parent),
+            place_of(standing, line.child),
+        );
     }
 }
 

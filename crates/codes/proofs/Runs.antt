@@ -19,6 +19,9 @@ use Rattle.codes.proofs.Turn.{turn-order, turn-room, turn-rule, turn-inside}
 cut-at : (s : Packets) (n k : ℕ) → k ≡ countBelow n (boundsOf s) → Cut 512 (boundsOf s) k n
 cut-at s n k e = subst (λ (m : ℕ). Cut 512 (boundsOf s) m n) (sym e) (cut 512 0 n (boundsOf s) (rising s))
 
+pub below-few : (s : Packets) (n : ℕ) {k : ℕ} → k ≡ countBelow n (boundsOf s) → k ≤ s .row .len
+below-few s n {k} e = omega (arith, cut-at s n k e .short, held-length (s .row))
+
 module _ (s : Packets) (v : Bool) {start stop i j : ℕ} (some : start < stop) (within : stop ≤ 512)
     (at-i : i ≡ countBelow start (boundsOf s)) (at-j : j ≡ countBelow (stop + 1) (boundsOf s)) where
   abbrev xs : List ℕ
@@ -29,9 +32,6 @@ module _ (s : Packets) (v : Bool) {start stop i j : ℕ} (some : start < stop) (
 
   abbrev b : Bool
   b = not (Bool·beq (odd j) v)
-
-  pub run-parts : (i ≤ s .row .len) × (j ≤ s .row .len)
-  run-parts = (omega (arith, cut-at s start i at-i .short, held-length (s .row)), omega (arith, cut-at s (stop + 1) j at-j .short, held-length (s .row)))
 
   pub run-room : i + (size a + (size b + (s .row .len - j))) ≤ 512
   run-room =
@@ -59,7 +59,7 @@ module _ (s : Packets) {i j : ℕ} (at-i : i ≡ countBelow 1 (boundsOf s)) (at-
   pub turn-parts : (i ≤ j) × (j ≤ s .row .len)
   turn-parts = (
     turn-order 512 ys i j (omega arith) (s .rule) (cut-at s 1 i at-i) (cut-at s 512 j at-j),
-    omega (arith, cut-at s 512 j at-j .short, held-length (s .row)),
+    below-few s 512 at-j,
   )
 
   pub turn-room-at : size (eqb i 0) + ((j - i) + size (eqb j (s .row .len))) ≤ 512

@@ -25,6 +25,7 @@ fn next_or_end<C: Code>(code: &C, from: usize) -> usize
     }
 }
 
+// The one packet code of these bits, run by run: a run begins at a place that is in, and ends at the next that is out.
 pub fn packets_of(bits: &Bits) -> Packets
     ensures { λ r. ⌜ Twins (now (bits .entry)) r ⌝ }
 {
@@ -40,6 +41,7 @@ pub fn packets_of(bits: &Bits) -> Packets
     packets
 }
 
+// The one code in bits of these packets.
 pub fn bits_of(packets: &Packets) -> Bits
     ensures { λ r. ⌜ Twins r (now (packets .entry)) ⌝ }
 {

@@ -1,4 +1,5 @@
 pub mod Seen
 pub mod Table
 pub mod Steps
-pub mod Runs
+pub mod Slots
+pub mod Values

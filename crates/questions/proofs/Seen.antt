@@ -52,7 +52,3 @@ turned-two sort f old one two new a b r took-b s took-a t put u set-is =
       deep = omega arith;
       slots = same-slots-trans old one new s (same-slots-trans one two new t u);
     }
-
--- the depth said otherwise
-pub turned-deep : {S R : Type 0} (sort : Sort S R) (change : ℕ → List Bool → List Bool) (d e : ℕ) (old new : Stack R) → Turned sort change d old new → d ≡ e → Turned sort change e old new
-turned-deep sort change d e old new t same = record { entries = t .entries; deep = t .deep ∙ same; slots = t .slots }

@@ -7,7 +7,7 @@ use native.Mathlib.Omega.{arith}
 use lib.ListN.{length}
 use Rattle.std.specs.declared.option.Option.the-variants.{Some}
 use Rattle.words.specs.declared.word.WordKind.{WordKind}
-use Rattle.words.specs.declared.word.WordKind.the-variants.{Name, All, Nothing}
+use Rattle.words.specs.declared.word.WordKind.the-variants.{Name}
 use Rattle.words.specs.declared.word.LowBits.the-variants as low
 use Rattle.words.specs.declared.word.StackEffect.{StackEffect}
 use Rattle.words.specs.declared.word.WordRule.{WordRule}
@@ -17,7 +17,7 @@ use Rattle.stack.specs.declared.lent.Stack.{Stack}
 use Rattle.stack.specs.Held.{held, SameSlots}
 use Rattle.questions.specs.Questions.{applied, depthAfter}
 use Rattle.questions.specs.Entries.{Turned, Stepped}
-use Rattle.questions.proofs.Seen.{turned-put, turned-deep}
+use Rattle.questions.proofs.Seen.{turned-put}
 use Rattle.questions.proofs.Table.{rowOf, row-by-kind}
 
 -- of the words of a question only a name has a serial

@@ -3,7 +3,7 @@ use mathlib.Core.Path.{_≡_}
 use mathlib.Core.Bool.{Bool}
 use mathlib.Core.List.{List, [], _∷_, map, reverse}
 use Prim.Native.Nat.{ℕ, _<_, _≤_}
-use lib.ListN.{length}
+use lib.ListN.{length, getD}
 use Rattle.std.specs.declared.option.Option.{Option}
 use Rattle.std.specs.declared.option.Option.the-variants.{Some, None}
 use Rattle.words.specs.declared.word.StackEffect.{StackEffect}
@@ -36,6 +36,10 @@ Stepped sort named whole w old new =
     (depthAfter (length (held old)) (ruleOf (kindNumber w) .effect))
     old
     new
+
+-- the first row is read as this set
+abbrev pub FirstReads : {S R : Type 0} → Sort S R → (ℕ → Bool) → List R → Type 0
+FirstReads {S} {R} sort set rows = (d : R) → Agree (sort .width) (sort .reads (getD rows 0 d)) set
 
 -- one row is left, and is read as this set
 abbrev pub LeftAlone : {S R : Type 0} → Sort S R → (ℕ → Bool) → Stack R → Type 0

@@ -7,7 +7,7 @@ ghost use Rattle.std.specs.Options.{Cases as BySome};
 ghost use Rattle.words.specs.declared.word.LowBits.the-variants as low;
 ghost use Rattle.words.specs.Refusals.{Says, questionTold};
 ghost use Rattle.words.specs.Words.{lowBits};
-ghost use Rattle.questions.specs.Questions.{lowRefusal, effectRefusal, depthBy};
+ghost use Rattle.questions.specs.Questions.{mostEntries, lowRefusal, effectRefusal};
 use super::lent::PlacedWord;
 use super::names::Names;
 use codes::Truth;
@@ -17,7 +17,7 @@ use words::QuestionFromCatalogue;
 use words::StackEffect;
 
 // The most entries at a time.
-pub(super) const MAX_ENTRIES: usize = 32;
+pub const MAX_ENTRIES: usize = 32;
 
 // The value of a word that names a kind, and none of a word whose low bits are 0, as they have to be.
 pub(super) fn named_row<T: Truth, N: Names<T>>(
@@ -41,7 +41,7 @@ pub(super) fn check_effect(
     depth: usize,
     index: usize,
 ) -> Result<(), QuestionFault>
-    requires { ⌜ depth ≤ 32 ⌝ }
+    requires { ⌜ depth ≤ mostEntries ⌝ }
     ensures { λ r. ⌜ Says questionTold r (effectRefusal index depth effect) ⌝ }
 {
     let kept = depth.saturating_sub(effect.takes);

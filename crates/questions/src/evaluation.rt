@@ -1,13 +1,12 @@
 // Evaluates a question in memory that the caller lends.
 ghost use mathlib.Core.Path.{_≡_};
 ghost use mathlib.Core.List.{[], _∷_};
-ghost use lib.ListN.{length, getD, drop};
-ghost use Rattle.codes.specs.Sorts.{Agree};
+ghost use lib.ListN.{length, drop};
 ghost use Rattle.stack.specs.Held.{held, room, SameSlots};
 ghost use Rattle.std.specs.Vec.{made};
 ghost use Rattle.words.specs.Refusals.{Says, questionTold, firstOf, listRefusal};
-ghost use Rattle.questions.specs.Questions.{questionRefusal, countRefusal, valueOf};
-ghost use Rattle.questions.specs.Entries.{LeftAlone};
+ghost use Rattle.questions.specs.Questions.{mostEntries, questionRefusal, countRefusal, valueOf};
+ghost use Rattle.questions.specs.Entries.{FirstReads, LeftAlone};
 use super::checks::MAX_ENTRIES;
 use super::count::check_count;
 use super::lent::Reader;
@@ -25,7 +24,7 @@ fn run<T: Truth + Drop, N: Names<T>>(
     stack: &mut Stack<'_, T::Row>,
 ) -> Result<(), QuestionFault>
     requires empty { ⌜ held (now stack) ≡ [] ⌝ }
-    requires room { ⌜ room (now stack) ≡ 32 ⌝ }
+    requires room { ⌜ room (now stack) ≡ mostEntries ⌝ }
     ensures refused { λ r. ⌜ Says questionTold r (questionRefusal (N·Names .standing (now (names .entry))) (now (words .entry))) ⌝ }
     ensures value { λ r. ⌜ made r (λ _. LeftAlone (T·Truth .sort) (valueOf (N·Names .named (now (names .entry))) (N·Names .whole (now (names .entry))) (now (words .entry))) (now (stack .exit))) ⌝ }
     ensures slots { λ _. ⌜ SameSlots (now (stack .entry)) (now (stack .exit)) ⌝ }
@@ -46,9 +45,9 @@ fn work<T: Truth + Drop, N: Names<T>>(
     names: &N,
     slots: &mut [T::Row],
 ) -> Result<(), QuestionFault>
-    requires { ⌜ length (now slots) ≡ 32 ⌝ }
+    requires { ⌜ length (now slots) ≡ mostEntries ⌝ }
     ensures refused { λ r. ⌜ Says questionTold r (questionRefusal (N·Names .standing (now (names .entry))) (now (words .entry))) ⌝ }
-    ensures value { λ r. ⌜ made r (λ _. (d : T·Row) → Agree (T·Truth .sort .width) (T·Truth .sort .reads (getD (now (slots .exit)) 0 d)) (valueOf (N·Names .named (now (names .entry))) (N·Names .whole (now (names .entry))) (now (words .entry)))) ⌝ }
+    ensures value { λ r. ⌜ made r (λ _. FirstReads (T·Truth .sort) (valueOf (N·Names .named (now (names .entry))) (N·Names .whole (now (names .entry))) (now (words .entry))) (now (slots .exit))) ⌝ }
 {
     let mut stack = Stack::new(slots);
     run::<T, N>(words, names, &mut stack)
@@ -60,9 +59,9 @@ pub fn evaluate<T: Truth + Drop, N: Names<T>>(
     names: &N,
     slots: &mut [T::Row],
 ) -> Result<(), QuestionFault>
-    ensures refused { λ r. ⌜ Says questionTold r (firstOf (listRefusal (length (now (slots .entry))) 32 ∷ countRefusal (now (words .entry)) ∷ questionRefusal (N·Names .standing (now (names .entry))) (now (words .entry)) ∷ [])) ⌝ }
-    ensures value { λ r. ⌜ made r (λ _. (d : T·Row) → Agree (T·Truth .sort .width) (T·Truth .sort .reads (getD (now (slots .exit)) 0 d)) (valueOf (N·Names .named (now (names .entry))) (N·Names .whole (now (names .entry))) (now (words .entry)))) ⌝ }
-    ensures beyond { λ _. ⌜ drop 32 (now (slots .exit)) ≡ drop 32 (now (slots .entry)) ⌝ }
+    ensures refused { λ r. ⌜ Says questionTold r (firstOf (listRefusal (length (now (slots .entry))) mostEntries ∷ countRefusal (now (words .entry)) ∷ questionRefusal (N·Names .standing (now (names .entry))) (now (words .entry)) ∷ [])) ⌝ }
+    ensures value { λ r. ⌜ made r (λ _. FirstReads (T·Truth .sort) (valueOf (N·Names .named (now (names .entry))) (N·Names .whole (now (names .entry))) (now (words .entry))) (now (slots .exit))) ⌝ }
+    ensures beyond { λ _. ⌜ drop mostEntries (now (slots .exit)) ≡ drop mostEntries (now (slots .entry)) ⌝ }
 {
     words::need(slots.len(), MAX_ENTRIES)?;
     check_count(words)?;

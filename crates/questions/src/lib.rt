@@ -8,6 +8,7 @@ mod reader;
 mod rows;
 mod step;
 
+pub use checks::MAX_ENTRIES;
 pub use count::MAX_WORDS;
 pub use count::check_count;
 pub use evaluation::evaluate;

@@ -10,7 +10,7 @@ ghost use Rattle.words.specs.declared.word.LowBits.the-variants as low;
 ghost use Rattle.std.specs.Vec.{made};
 ghost use Rattle.words.specs.Refusals.{Says, questionTold};
 ghost use Rattle.words.specs.Words.{kindNumber, ruleOf};
-ghost use Rattle.questions.specs.Questions.{onTop, onTwo, wordRefusal};
+ghost use Rattle.questions.specs.Questions.{mostEntries, onTop, onTwo, wordRefusal};
 ghost use Rattle.questions.specs.Entries.{Turned, Fitting, Stepped};
 use super::checks::check_effect;
 use super::checks::named_row;
@@ -76,7 +76,7 @@ fn lack_top<T: Truth + Drop>(stack: &mut Stack<'_, T::Row>, all: T::Row)
 fn operate<T: Truth + Drop, N: Names<T>>(names: &N, word: u32, stack: &mut Stack<'_, T::Row>)
     requires low { ⌜ ruleOf (kindNumber word) .low ≡ low.Zero ⌝ }
     requires fits { ⌜ Fitting (length (held (now stack))) (ruleOf (kindNumber word) .effect) ⌝ }
-    requires room { ⌜ room (now stack) ≡ 32 ⌝ }
+    requires room { ⌜ room (now stack) ≡ mostEntries ⌝ }
     ensures { λ _. ⌜ Stepped (T·Truth .sort) (N·Names .named (now (names .entry))) (N·Names .whole (now (names .entry))) word (now (stack .entry)) (now (stack .exit)) ⌝ }
 {
     match words::rule(word).kind {
@@ -95,7 +95,7 @@ pub(super) fn step<T: Truth + Drop, N: Names<T>>(
     placed: PlacedWord,
     stack: &mut Stack<'_, T::Row>,
 ) -> Result<(), QuestionFault>
-    requires { ⌜ room (now stack) ≡ 32 ⌝ }
+    requires { ⌜ room (now stack) ≡ mostEntries ⌝ }
     ensures refused { λ r. ⌜ Says questionTold r (wordRefusal (N·Names .standing (now (names .entry))) (placed .index) (length (held (now (stack .entry)))) (placed .word)) ⌝ }
     ensures after { λ r. ⌜ made r (λ _. Stepped (T·Truth .sort) (N·Names .named (now (names .entry))) (N·Names .whole (now (names .entry))) (placed .word) (now (stack .entry)) (now (stack .exit))) ⌝ }
     ensures slots { λ _. ⌜ SameSlots (now (stack .entry)) (now (stack .exit)) ⌝ }

@@ -33,6 +33,7 @@ pub impl Truth for Packets as PacketsTruth {
         self.unset_run(edge, PLACES);
     }
 
+    // Each packet of the other is set.
     fn join(&mut self, other: &Packets) {
         for i in 0..other.row.len / 2 {
             self.set_run(
@@ -90,6 +91,7 @@ pub impl Code for Packets as PacketsCode {
         self.below(place + 1) % 2 == 1
     }
 
+    // This place where it lies in a packet, else the first place of the next packet.
     fn next(&self, from: usize) -> Option<usize> {
         if from >= PLACES {
             return None;

@@ -8,6 +8,7 @@ use super::row::PacketRow;
 use crate::PLACES;
 
 impl PacketRow {
+    // The bounds rise strictly, and none is above the width.
     fn rises(&self) -> bool
         requires { ⌜ now self .len ≤ 512 ⌝ }
         ensures { λ r. ⌜ r ≡ rises 512 0 (take (now (self .entry) .len) (now (self .entry) .bounds)) ⌝ }
@@ -23,6 +24,7 @@ impl PacketRow {
         true
     }
 
+    // There is 0 at each place past the bounds.
     fn clear(&self) -> bool
         requires { ⌜ now self .len ≤ 512 ⌝ }
         ensures { λ r. ⌜ r ≡ zeros (drop (now (self .entry) .len) (now (self .entry) .bounds)) ⌝ }

@@ -1,4 +1,4 @@
-// Setting and unsetting runs of places, on which all changes of packets stand.
+// Setting and unsetting runs of places, on which meet, join, put and take stand, and the complement.
 ghost use mathlib.Core.Path.{_≡_};
 ghost use mathlib.Core.Bool.{not, cond, _&&_, _||_};
 ghost use lib.Dec.{leb, ltb};
@@ -46,12 +46,14 @@ impl Packets {
         Packets { row }
     }
 
+    // Puts in the places from start on and below end; those past the width are left out.
     pub fn set_run(&mut self, start: usize, end: usize)
         ensures { λ _. ⌜ Agree 512 (packetsHave (now (self .exit))) (λ p. (leb start p && ltb p end) || packetsHave (now (self .entry)) p) ⌝ }
     {
         *self = self.with_run(start, end, true);
     }
 
+    // Takes out the places from start on and below end.
     pub fn unset_run(&mut self, start: usize, end: usize)
         ensures { λ _. ⌜ Agree 512 (packetsHave (now (self .exit))) (λ p. not (leb start p && ltb p end) && packetsHave (now (self .entry)) p) ⌝ }
     {

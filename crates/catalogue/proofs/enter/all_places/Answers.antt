@@ -1,7 +1,6 @@
-use mathlib.Core.Path.{_≡_, ap, sym, _∙_}
+use mathlib.Core.Path.{ap, sym, _∙_}
 use mathlib.Core.List.{List, [], _∷_, _++_}
 use native.Mathlib.Omega.{arith}
-use borrow.Author.Needs.{needs}
 use Prim.Native.Nat.{ℕ}
 use Rattle.catalogue.proofs.Seating.{counting-more}
 use Rattle.catalogue.proofs.enter.all_places.Needs as need

@@ -1,4 +1,4 @@
-use mathlib.Core.Path.{_≡_, refl, sym, ap, subst, _∙_}
+use mathlib.Core.Path.{_∙_}
 use Rattle.std.proofs.shelf.Results.{err-from-errBy}
 use Rattle.catalogue.proofs.NameRuns.{names-missing, names-wrong, names-right}
 use Rattle.catalogue.proofs.names.check_names.Needs as need

@@ -1,12 +1,12 @@
-use mathlib.Core.Path.{_≡_, refl, sym, ap, subst, _∙_}
-use Prim.Native.Nat.{ℕ, _+_, _<_, _≤_}
+use mathlib.Core.Path.{sym, ap, _∙_}
+use Prim.Native.Nat.{_+_, _<_}
 use native.Mathlib.Omega.{arith}
 use lib.ListN.{length, drop}
 use Rattle.std.proofs.shelf.Lists.{length-drop}
 use Rattle.std.proofs.shelf.Results.{err-from-errBy}
 use Rattle.std.proofs.shelf.Tests.{eqb-false}
 use Rattle.words.specs.declared.refusal.Refusal.{Refusal}
-use Rattle.catalogue.specs.Formats.{notAnswer, namesRefusal}
+use Rattle.catalogue.specs.Formats.{notAnswer}
 use Rattle.catalogue.proofs.AnswerChecks.{names-answer, nothing-more, one-more, answer-names, answer-end}
 use Rattle.std.specs.declared.option.Option.the-variants.{Some}
 use Rattle.catalogue.proofs.recall.check_answer.Needs as need

@@ -1,12 +1,10 @@
-use mathlib.Core.Path.{_≡_, sym, ap, _∙_}
+use mathlib.Core.Path.{_≡_, sym, _∙_}
 use mathlib.Core.List.{List, map}
-use mathlib.Core.Logic.{⊎-elim}
-use Prim.Native.Nat.{ℕ, _+_, _-_, _/_, _<_, _≤_}
+use Prim.Native.Nat.{ℕ, _+_, _-_, _/_, _<_}
 use native.Mathlib.Omega.{arith}
-use lib.ListN.{length, getD}
+use lib.ListN.{length}
 use Rattle.std.proofs.shelf.Lists.{length-map}
 use Rattle.catalogue.proofs.Rising.{key-at, lesser-upto, not-lesser-from, greater-from}
-use Rattle.catalogue.proofs.search.locate.Given as given
 use Rattle.catalogue.proofs.search.locate.Needs as need
 use Rattle.catalogue.proofs.search.locate.Needs.{else-low-items·by·then-low-items·else-key-2, else-low-items·by·else-low-items}
 

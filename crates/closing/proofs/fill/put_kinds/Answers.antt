@@ -30,13 +30,12 @@ loop-kind-again g c =
     let lt : n < length (placesOf kinds) = simp length-map (c .loop-kind-test .taken) in
     let at = getD-map (λ k. k .place) kinds n (record { serial = 0; place = 0 }) 0 (c .loop-kind-test .taken) in
     let low = below-at (c .args .w) (placesOf kinds) (c .pre .1 .1) n lt in
-    let p = getD (placesOf kinds) n 0 in
-    (
+    let p = getD (placesOf kinds) n 0 in (
       λ i j hi hj.
-        (rw (← at) at (c .put .ensures .cells i j (omega arith) (omega arith)))
-        ∙ ap (λ b. b || (eqb i p && eqb j p)) (c .loop-kind .inv .0 i j hi hj)
-        ∙ or-assoc (cell old i j) (own (take n (placesOf kinds)) i j) (eqb i p && eqb j p)
-        ∙ ap (λ b. cell old i j || b) (sym (own-more (placesOf kinds) n i j lt)),
+          (rw (← at) at (c .put .ensures .cells i j (omega arith) (omega arith)))
+          ∙ ap (λ b. b || (eqb i p && eqb j p)) (c .loop-kind .inv .0 i j hi hj)
+          ∙ or-assoc (cell old i j) (own (take n (placesOf kinds)) i j) (eqb i p && eqb j p)
+          ∙ ap (λ b. cell old i j || b) (sym (own-more (placesOf kinds) n i j lt)),
       c .put .ensures .beyond (c .args .w) (omega arith) ∙ c .loop-kind .inv .1,
     )
 

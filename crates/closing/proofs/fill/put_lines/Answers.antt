@@ -37,13 +37,12 @@ loop-line-again g c =
     let n = c .loop-line .line-index in
     let l = getD lines n (record { child = 0; parent = 0 }) in
     let ends = line-ends st n (c .loop-line-test .taken) in
-    let up = place-below st (l .parent) (ends .1) in
-    (
+    let up = place-below st (l .parent) (ends .1) in (
       λ i j hi hj.
-        (rw (c .place-of .ensures, c .place-of-in-loop-line .ensures) at (c .put .ensures .cells i j (omega arith) (omega arith)))
-        ∙ ap (λ b. b || (eqb i (placeOf kinds (l .parent)) && eqb j (placeOf kinds (l .child)))) (c .loop-line .inv .0 i j hi hj)
-        ∙ or-assoc (cell old i j) (linked kinds (take n lines) i j) (eqb i (placeOf kinds (l .parent)) && eqb j (placeOf kinds (l .child)))
-        ∙ ap (λ b. cell old i j || b) (sym (linked-more kinds lines n i j (record { child = 0; parent = 0 }) (c .loop-line-test .taken))),
+          (rw (c .place-of .ensures, c .place-of-in-loop-line .ensures) at (c .put .ensures .cells i j (omega arith) (omega arith)))
+          ∙ ap (λ b. b || (eqb i (placeOf kinds (l .parent)) && eqb j (placeOf kinds (l .child)))) (c .loop-line .inv .0 i j hi hj)
+          ∙ or-assoc (cell old i j) (linked kinds (take n lines) i j) (eqb i (placeOf kinds (l .parent)) && eqb j (placeOf kinds (l .child)))
+          ∙ ap (λ b. cell old i j || b) (sym (linked-more kinds lines n i j (record { child = 0; parent = 0 }) (c .loop-line-test .taken))),
       c .put .ensures .beyond (st .width) (omega arith) ∙ c .loop-line .inv .1,
     )
 

@@ -13,9 +13,12 @@ loop-low-again-then-lines-middle c =
     let l = c .loop-low in
     let middle = l .low + (l .high - l .low) / 2 in
     let within : middle < length xs = omega arith in
-    let at = getD-map (λ k. k .child) xs middle (record { child = 0; parent = 0 }) 0 within in
-    (omega arith, l .inv .1,
-    before-middle (length xs) (map (λ k. k .child) xs) (c .args .child) middle (c .pre) within (omega arith), l .inv .3)
+    let at = getD-map (λ k. k .child) xs middle (record { child = 0; parent = 0 }) 0 within in (
+      omega arith,
+      l .inv .1,
+      before-middle (length xs) (map (λ k. k .child) xs) (c .args .child) middle (c .pre) within (omega arith),
+      l .inv .3,
+    )
 
 pub loop-low-again : need.loop-low-again
 loop-low-again c =
@@ -23,9 +26,12 @@ loop-low-again c =
     let l = c .loop-low in
     let middle = l .low + (l .high - l .low) / 2 in
     let within : middle < length xs = omega arith in
-    let at = getD-map (λ k. k .child) xs middle (record { child = 0; parent = 0 }) 0 within in
-    (omega arith, omega arith, l .inv .2,
-    after-middle (length xs) (map (λ k. k .child) xs) (c .args .child) middle (c .pre) (omega arith))
+    let at = getD-map (λ k. k .child) xs middle (record { child = 0; parent = 0 }) 0 within in (
+      omega arith,
+      omega arith,
+      l .inv .2,
+      after-middle (length xs) (map (λ k. k .child) xs) (c .args .child) middle (c .pre) (omega arith),
+    )
 
 pub returns : need.returns
 returns c =

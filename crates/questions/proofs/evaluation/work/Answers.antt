@@ -3,7 +3,7 @@ use mathlib.Core.List.{[], _∷_}
 use denote.Ref.{now}
 use Rattle.std.proofs.shelf.Results.{made-weaker}
 use Rattle.stack.proofs.Depths.{slots-begin}
-use Rattle.questions.proofs.Runs.{first-slot}
+use Rattle.questions.proofs.Slots.{first-slot}
 use Rattle.questions.proofs.evaluation.work.Needs as need
 
 pub returns : need.returns

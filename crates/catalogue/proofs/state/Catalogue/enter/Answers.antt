@@ -1,6 +1,6 @@
-use mathlib.Core.Path.{_≡_, refl, ap, _∙_}
-use mathlib.Core.List.{List, map}
-use Prim.Native.Nat.{ℕ, _<_, _≤_}
+use mathlib.Core.Path.{refl, ap}
+use mathlib.Core.List.{List}
+use Prim.Native.Nat.{ℕ}
 use native.Mathlib.Omega.{arith}
 use lib.ListN.{length}
 use Rattle.std.specs.Of.Vec.{vec-items}
@@ -9,7 +9,6 @@ use Rattle.std.proofs.shelf.Tests.{le-leb, lt-leb}
 use Rattle.words.specs.Refusals.{catalogueTold}
 use Rattle.catalogue.specs.declared.search.Spot.the-variants.{Here, Gap}
 use Rattle.catalogue.specs.Ledger.{enter, opened}
-use Rattle.catalogue.specs.Order.{Located}
 use Rattle.catalogue.specs.View.{view}
 use Rattle.catalogue.proofs.Chain.{passes, stops, unrefused, refuses, good-serial}
 use Rattle.catalogue.proofs.KindEdits.{serials, places, look-in, seats-count, entered-filed, entered-rising, entered-below, entered-seats, entered-joining}

@@ -1,12 +1,11 @@
-use mathlib.Core.Path.{_≡_, refl, sym, ap, subst, _∙_}
+use mathlib.Core.Path.{refl, ap, _∙_}
 use mathlib.Core.List.{List, map}
-use mathlib.Core.Bool.{true, false}
-use Prim.Native.Nat.{ℕ, _+_, _^_, _<_, _≤_}
+use Prim.Native.Nat.{_<_}
 use native.Mathlib.Omega.{arith}
 use lib.ListN.{length}
-use Rattle.std.specs.Of.Vec.{vec-len, vec-items, vec-cap}
+use Rattle.std.specs.Of.Vec.{vec-len, vec-items}
 use Rattle.std.proofs.shelf.Lists.{length-map}
-use Rattle.std.proofs.shelf.Tests.{not-from-true, not-from-false, le-leb, lt-leb}
+use Rattle.std.proofs.shelf.Tests.{le-leb, lt-leb}
 use Rattle.words.specs.Refusals.{catalogueTold}
 use Rattle.descent.specs.declared.line.Line.{Line}
 use Rattle.descent.specs.Order.{risingFrom, lineKey}

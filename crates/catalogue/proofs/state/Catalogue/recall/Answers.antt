@@ -1,20 +1,20 @@
-use mathlib.Core.Path.{_≡_, refl, sym, ap, ap₂, subst, _∙_}
+use mathlib.Core.Path.{_≡_, refl, sym, ap, ap₂, _∙_}
 use mathlib.Core.List.{List, [], _∷_, _++_, map}
 use mathlib.Core.Bool.{true}
-use Prim.Native.Nat.{ℕ, zero, suc, _+_, _-_, _<_, _≤_}
-use native.Mathlib.Numerals.{add-one}
+use Prim.Native.Nat.{ℕ, suc, _+_, _-_, _≤_}
 use native.Mathlib.Omega.{arith}
 use lib.ListN.{length, take, drop, set}
 use Rattle.std.specs.Of.Vec.{vec-items}
 use Rattle.std.specs.shelf.Lists.{kept-by, paste}
-use Rattle.std.proofs.shelf.Lists.{length-map, length-drop, take-all, take-rest}
+use Rattle.std.proofs.shelf.Edits.{paste-all}
+use Rattle.std.proofs.shelf.Lists.{length-map, take-all, take-rest}
 use Rattle.std.proofs.shelf.Tests.{ltb-false}
 use Rattle.descent.specs.Lines.{stands}
 use Rattle.descent.specs.Order.{risingFrom}
 use Rattle.words.specs.declared.word.WordKind.the-variants.{Name, AnswerHead}
 use Rattle.words.specs.Words.{lowBits, wordOf}
 use Rattle.catalogue.specs.declared.state.Catalogue.{Catalogue}
-use Rattle.catalogue.specs.Formats.{serialsIn, namedIn, answerOf}
+use Rattle.catalogue.specs.Formats.{serialsIn, namedIn}
 use Rattle.catalogue.specs.View.{view}
 use Rattle.catalogue.proofs.AnswerChecks.{answer-passed}
 use Rattle.catalogue.proofs.Chain.{passes, last-check, not-refused}

@@ -1,6 +1,6 @@
-use mathlib.Core.Path.{_≡_, sym, ap, ap₂, _∙_}
+use mathlib.Core.Path.{ap, ap₂, _∙_}
 use mathlib.Core.List.{List, map}
-use Prim.Native.Nat.{ℕ, _^_}
+use Prim.Native.Nat.{_^_}
 use Rattle.std.specs.Of.Vec.{vec-items}
 use Rattle.descent.specs.declared.kind.Kind.{Kind}
 use Rattle.descent.specs.declared.line.Line.{Line}

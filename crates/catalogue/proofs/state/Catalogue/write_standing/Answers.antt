@@ -1,4 +1,4 @@
-use mathlib.Core.Path.{_≡_, refl, sym, ap, ap₂, subst, _∙_}
+use mathlib.Core.Path.{_≡_, refl, sym, ap, ap₂, _∙_}
 use mathlib.Core.List.{List, [], _∷_, _++_, map}
 use mathlib.Core.Bool.{Bool, true, false, cond}
 use Prim.Native.Nat.{ℕ, _+_, _<_, _≤_}
@@ -8,7 +8,6 @@ use Rattle.std.specs.Of.Vec.{vec-items}
 use Rattle.std.specs.shelf.Lists.{kept-by, paste}
 use Rattle.std.proofs.shelf.Edits.{paste-none}
 use Rattle.std.proofs.shelf.Lists.{append-nil, length-map, length-push, map-push, take-all}
-use Rattle.std.proofs.shelf.Tests.{cond-true, cond-false}
 use Rattle.descent.specs.Lines.{stands}
 use Rattle.descent.specs.Order.{risingFrom}
 use Rattle.catalogue.specs.declared.state.Catalogue.{Catalogue}
@@ -17,7 +16,7 @@ use Rattle.words.specs.Words.{lowBits, wordOf}
 use Rattle.catalogue.specs.Formats.{serialsIn}
 use Rattle.catalogue.specs.View.{view}
 use Rattle.catalogue.proofs.Keeping.{kept-next, kept-few, paste-one}
-use Rattle.catalogue.proofs.KindEdits.{serials, places, seats-count}
+use Rattle.catalogue.proofs.KindEdits.{places, seats-count}
 use Rattle.catalogue.proofs.state.Catalogue.write_standing.Needs as need
 use Rattle.catalogue.proofs.state.Catalogue.write_standing.Needs.{then-stands, else-stands}
 

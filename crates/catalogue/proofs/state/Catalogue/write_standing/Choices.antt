@@ -1,8 +1,6 @@
 use mathlib.Core.Path.{_≡_}
 use mathlib.Core.List.{map}
-use Prim.Native.Nat.{_≤_}
 use lib.ListN.{length, take}
-use Rattle.std.specs.Of.Vec.{vec-items}
 use Rattle.std.specs.shelf.Lists.{kept-by, paste}
 use Rattle.descent.specs.Lines.{stands}
 use Rattle.words.specs.declared.word.WordKind.the-variants.{Name}

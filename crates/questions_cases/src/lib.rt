@@ -1,0 +1,4 @@
+// Questions with known answers, asked at yes and no.
+mod few;
+#[cfg(test)]
+mod tests;
