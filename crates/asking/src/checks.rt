@@ -5,12 +5,10 @@ ghost use Rattle.words.specs.Refusals.{Says, questionTold, refusal, refuseIf};
 ghost use Rattle.catalogue.specs.View.{view};
 ghost use Rattle.asking.specs.Asking.{askRefusal, fitRefusal};
 use catalogue::Catalogue;
+use questions::MAX_ENTRIES;
 use words::QuestionFault;
 use words::QuestionFromList;
 use words::need;
-
-// The working values that a question may need.
-const WORKING: usize = 32;
 
 fn check_closed(catalogue: &Catalogue) -> Result<(), QuestionFault>
     ensures { λ r. ⌜ Says questionTold r (refuseIf (not (view (now (catalogue .entry)) .book .closed)) (refusal 12 0 part.Question)) ⌝ }
@@ -31,7 +29,7 @@ pub(super) fn check_ask(
 {
     need(table, catalogue.width())?;
     need(answer, catalogue.width() + 1)?;
-    need(working, WORKING)?;
+    need(working, MAX_ENTRIES)?;
     check_closed(catalogue)
 }
 
@@ -43,6 +41,6 @@ pub(super) fn check_fit(
     ensures { λ r. ⌜ Says questionTold r (fitRefusal (view (now (catalogue .entry)) .book) table working) ⌝ }
 {
     need(table, catalogue.width())?;
-    need(working, WORKING)?;
+    need(working, MAX_ENTRIES)?;
     check_closed(catalogue)
 }
