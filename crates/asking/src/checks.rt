@@ -1,14 +1,23 @@
 // What is checked before a question is looked at: the lists that are handed in, and that the catalogue is closed.
-ghost use Rattle.words.specs.Refusals.{Says, questionTold};
+ghost use mathlib.Core.Bool.{not};
+ghost use Rattle.words.specs.declared.refusal.Part.the-variants as part;
+ghost use Rattle.words.specs.Refusals.{Says, questionTold, refusal, refuseIf};
 ghost use Rattle.catalogue.specs.View.{view};
 ghost use Rattle.asking.specs.Asking.{askRefusal, fitRefusal};
 use catalogue::Catalogue;
+use questions::MAX_ENTRIES;
 use words::QuestionFault;
 use words::QuestionFromList;
 use words::need;
 
-// The working values that a question may need.
-const WORKING: usize = 32;
+fn check_closed(catalogue: &Catalogue) -> Result<(), QuestionFault>
+    ensures { λ r. ⌜ Says questionTold r (refuseIf (not (view (now (catalogue .entry)) .book .closed)) (refusal 12 0 part.Question)) ⌝ }
+{
+    if !catalogue.is_closed() {
+        return Err(QuestionFault::Open);
+    }
+    Ok(())
+}
 
 pub(super) fn check_ask(
     catalogue: &Catalogue,
@@ -20,11 +29,8 @@ pub(super) fn check_ask(
 {
     need(table, catalogue.width())?;
     need(answer, catalogue.width() + 1)?;
-    need(working, WORKING)?;
-    if !catalogue.is_closed() {
-        return Err(QuestionFault::Open);
-    }
-    Ok(())
+    need(working, MAX_ENTRIES)?;
+    check_closed(catalogue)
 }
 
 pub(super) fn check_fit(
@@ -35,9 +41,6 @@ pub(super) fn check_fit(
     ensures { λ r. ⌜ Says questionTold r (fitRefusal (view (now (catalogue .entry)) .book) table working) ⌝ }
 {
     need(table, catalogue.width())?;
-    need(working, WORKING)?;
-    if !catalogue.is_closed() {
-        return Err(QuestionFault::Open);
-    }
-    Ok(())
+    need(working, MAX_ENTRIES)?;
+    check_closed(catalogue)
 }
