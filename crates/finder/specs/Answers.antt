@@ -33,6 +33,13 @@ partName part.Answer = codes "answer"
 partName part.Code = codes "code"
 
 -- refused NUMBER at INDEX by PART
+abbrev pub refusal : Refusal → List ℕ
+refusal told =
+    codes "refused " ++ decimal (told .number) ++ codes " at " ++ decimal (told .index) ++ codes " by " ++ partName (told .part)
+
 abbrev pub refusedLine : Refusal → List ℕ
-refusedLine told =
-    codes "refused " ++ decimal (told .number) ++ codes " at " ++ decimal (told .index) ++ codes " by " ++ partName (told .part) ++ lineBreak
+refusedLine told = refusal told ++ lineBreak
+
+-- a refusal, then ring WORDS
+abbrev pub ringLine : Refusal → List ℕ → List ℕ
+ringLine told ring = refusal told ++ codes " ring" ++ spaced ring ++ lineBreak

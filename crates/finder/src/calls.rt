@@ -12,6 +12,7 @@ pub enum Call<'a> {
     Withdraw(u32),
     Line { child: u32, parent: u32 },
     Unline { child: u32, parent: u32 },
+    Close,
     Read(Vec<u32>),
     Write,
     Recall(Vec<u32>),
@@ -56,6 +57,7 @@ fn parse_named<'a>(
             let parent = take_serial(fields)?;
             Ok(Call::Unline { child, parent })
         }
+        b"close" => Ok(Call::Close),
         b"read" => Ok(Call::Read(take_words(heap, fields)?)),
         b"write" => Ok(Call::Write),
         b"recall" => Ok(Call::Recall(take_words(heap, fields)?)),
@@ -63,7 +65,7 @@ fn parse_named<'a>(
         b"save" => Ok(Call::Save(take_file(fields)?)),
         b"kits" => Ok(Call::Kits(take_file(fields)?)),
         b"help" => Ok(Call::Help),
-        b"close" | b"ask" | b"fit" => Err(Mistake::NotBuilt),
+        b"ask" | b"fit" => Err(Mistake::NotBuilt),
         _ => Err(Mistake::NoSuchCall),
     }
 }

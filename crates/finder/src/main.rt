@@ -9,7 +9,16 @@ mod session;
 mod trouble;
 
 use calls::parse_call;
+use codes::Bits;
+use codes::BitsCode;
+use codes::BitsTruth;
+use codes::Code;
+use codes::Packets;
+use codes::PacketsCode;
+use codes::PacketsTruth;
 use notes::write_greeting;
+use options::CodeName;
+use options::Options;
 use options::read_options;
 use protocol::write_trouble;
 use session::Session;
@@ -42,9 +51,9 @@ fn tell_trouble(rt: &LibcRuntime, out: &mut Vec<u8>, trouble: Trouble) -> io::Re
 }
 
 // Carries out the call in a line. A line that is blank or a remark has none.
-fn perform_line(
+fn perform_line<C: Code + Drop>(
     rt: &LibcRuntime,
-    session: &mut Session,
+    session: &mut Session<C>,
     line: &[u8],
     out: &mut Vec<u8>,
 ) -> Result<(), Trouble> {
@@ -54,9 +63,9 @@ fn perform_line(
     Ok(())
 }
 
-fn answer_line(
+fn answer_line<C: Code + Drop>(
     rt: &LibcRuntime,
-    session: &mut Session,
+    session: &mut Session<C>,
     line: &[u8],
     out: &mut Vec<u8>,
 ) -> io::Result<()> {
@@ -75,7 +84,11 @@ fn text_of(line: &[u8]) -> &[u8] {
 }
 
 // Answers the lines of standard input up to its end.
-fn serve(rt: &LibcRuntime, session: &mut Session, out: &mut Vec<u8>) -> io::Result<()> {
+fn serve<C: Code + Drop>(
+    rt: &LibcRuntime,
+    session: &mut Session<C>,
+    out: &mut Vec<u8>,
+) -> io::Result<()> {
     let mut input = BufReader::new(rt.stdin());
     let mut line = Vec::new(rt.alloc());
     for _ in 0..u64::MAX {
@@ -89,10 +102,13 @@ fn serve(rt: &LibcRuntime, session: &mut Session, out: &mut Vec<u8>) -> io::Resu
 }
 
 // Sets the catalogue up as the arguments say.
-fn start(rt: &LibcRuntime, out: &mut Vec<u8>) -> Result<Session, Trouble> {
-    let options = read_options(rt)?;
+fn start<C: Code + Drop>(
+    rt: &LibcRuntime,
+    options: &Options,
+    out: &mut Vec<u8>,
+) -> Result<Session<C>, Trouble> {
     write_greeting(out, options.code)?;
-    let Ok(mut session) = Session::new(rt.alloc()) else {
+    let Ok(mut session) = Session::<C>::new(rt.alloc()) else {
         return Err(Trouble::Mistaken(Mistake::Memory));
     };
     if let Some(path) = &options.image {
@@ -102,16 +118,30 @@ fn start(rt: &LibcRuntime, out: &mut Vec<u8>) -> Result<Session, Trouble> {
 }
 
 // Started wrong, the program ends with status 1, so that no empty catalogue is saved over a good one.
+fn give_up(rt: &LibcRuntime, out: &mut Vec<u8>, trouble: Trouble) -> io::Result<()> {
+    tell_trouble(rt, out, trouble)?;
+    Err(io::Error::from(io::ErrorKind::InvalidInput))
+}
+
+// Starts and serves over one sort of code.
+fn run<C: Code + Drop>(rt: &LibcRuntime, options: &Options, out: &mut Vec<u8>) -> io::Result<()> {
+    match start::<C>(rt, options, out) {
+        Ok(mut session) => {
+            tell(rt, out)?;
+            serve(rt, &mut session, out)
+        }
+        Err(trouble) => give_up(rt, out, trouble),
+    }
+}
+
 fn main(rt: LibcRuntime) -> io::Result<()> {
     let mut out = Vec::new(rt.alloc());
-    match start(&rt, &mut out) {
-        Ok(mut session) => {
-            tell(&rt, &mut out)?;
-            serve(&rt, &mut session, &mut out)
-        }
-        Err(trouble) => {
-            tell_trouble(&rt, &mut out, trouble)?;
-            Err(io::Error::from(io::ErrorKind::InvalidInput))
-        }
+    let options = match read_options(&rt) {
+        Ok(options) => options,
+        Err(mistake) => return give_up(&rt, &mut out, Trouble::Mistaken(mistake)),
+    };
+    match options.code {
+        CodeName::Bits => run::<Bits>(&rt, &options, &mut out),
+        CodeName::Packets => run::<Packets>(&rt, &options, &mut out),
     }
 }

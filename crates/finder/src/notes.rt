@@ -12,6 +12,7 @@ const HELP: &[u8] =
 # withdraw SERIAL         withdraw a kind that no line has
 # line CHILD PARENT       enter a line: the child is a kind of the parent
 # unline CHILD PARENT     withdraw a line
+# close                   fill the codes of what descends from each kind; refused where a ring stands
 # read WORDS              read an image into an empty catalogue
 # write                   write the image
 # recall WORDS            of the kinds that a kept answer names, those that stand
@@ -19,9 +20,9 @@ const HELP: &[u8] =
 # save FILE               write the image to a file, by way of FILE.tmp
 # kits FILE               recall each kept answer of a file; tell the kits, and how many lost kinds
 #                         (a kit ends with the names that its head counts, or before the next head)
-# close, ask WORDS, fit SERIAL WORDS are not built yet
+# ask WORDS, fit SERIAL WORDS are not built yet
 # help                    these lines
-# answers: ok, ok WORDS, ok KITS CHANGED, refused NUMBER at INDEX by PART, error and why
+# answers: ok, ok WORDS, ok KITS CHANGED, refused NUMBER at INDEX by PART (ring WORDS), error and why
 ";
 
 pub fn write_greeting(out: &mut Vec<u8>, code: CodeName) -> Result<(), AllocError> {

@@ -3,7 +3,7 @@ ghost use mathlib.Core.Path.{_≡_};
 ghost use mathlib.Core.List.{_++_};
 ghost use Rattle.std.specs.Of.Vec.{vec-items};
 ghost use Rattle.std.specs.Vec.{made};
-ghost use Rattle.finder.specs.Answers.{okLine, okWords, okKits, partName, refusedLine};
+ghost use Rattle.finder.specs.Answers.{okLine, okWords, okKits, partName, refusal, refusedLine, ringLine};
 use super::trouble::Mistake;
 use super::trouble::Trouble;
 use std::alloc::AllocError;
@@ -46,13 +46,30 @@ pub fn write_trouble(out: &mut Vec<u8>, trouble: Trouble) -> Result<(), AllocErr
 pub fn write_refusal(out: &mut Vec<u8>, told: Refusal) -> Result<(), AllocError>
     ensures { λ r. ⌜ made r (λ _. vec-items (now (out .exit)) ≡ vec-items (now (out .entry)) ++ refusedLine told) ⌝ }
 {
+    write_refused(out, told)?;
+    out.extend_from_slice(b"\n")
+}
+
+// A refusal with the ring that it was met for behind it.
+pub fn write_ring(out: &mut Vec<u8>, told: Refusal, ring: &[u32]) -> Result<(), AllocError>
+    ensures { λ r. ⌜ made r (λ _. vec-items (now (out .exit)) ≡ vec-items (now (out .entry)) ++ ringLine told (now (ring .entry))) ⌝ }
+{
+    write_refused(out, told)?;
+    out.extend_from_slice(b" ring")?;
+    write_words(out, ring)?;
+    out.extend_from_slice(b"\n")
+}
+
+// A refusal without a line break.
+fn write_refused(out: &mut Vec<u8>, told: Refusal) -> Result<(), AllocError>
+    ensures { λ r. ⌜ made r (λ _. vec-items (now (out .exit)) ≡ vec-items (now (out .entry)) ++ refusal told) ⌝ }
+{
     out.extend_from_slice(b"refused ")?;
     write_decimal(out, told.number as u64)?;
     out.extend_from_slice(b" at ")?;
     write_decimal(out, told.index as u64)?;
     out.extend_from_slice(b" by ")?;
-    out.extend_from_slice(part_name(told.part))?;
-    out.extend_from_slice(b"\n")
+    out.extend_from_slice(part_name(told.part))
 }
 
 fn write_mistake(out: &mut Vec<u8>, mistake: Mistake) -> Result<(), AllocError> {

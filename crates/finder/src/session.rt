@@ -1,4 +1,8 @@
-// A catalogue with its working lists, and what each call does to it.
+// A catalogue over one sort of code with its working lists, and what each call does to it.
+ghost use mathlib.Core.Path.{_≡_};
+ghost use Rattle.std.specs.Of.Vec.{vec-len};
+ghost use Rattle.std.specs.Vec.{made};
+ghost use Rattle.finder.specs.Rings.{Fits};
 use super::calls::Call;
 use super::files::load_words;
 use super::files::save_words;
@@ -10,10 +14,12 @@ use super::notes::write_standing;
 use super::protocol::write_ok;
 use super::protocol::write_ok_kits;
 use super::protocol::write_ok_words;
+use super::protocol::write_ring;
 use super::trouble::Trouble;
 use super::trouble::TroubleFromAlloc;
 use super::trouble::TroubleFromAnswer;
 use super::trouble::TroubleFromCatalogue;
+use super::trouble::TroubleFromClosing;
 use super::trouble::TroubleFromImage;
 use super::trouble::TroubleFromMistake;
 use catalogue::Catalogue;
@@ -21,10 +27,15 @@ use catalogue::MAX_LINES;
 use catalogue::MAX_WIDTH;
 use catalogue::SetUpFault;
 use catalogue::SetUpFromAlloc;
+use codes::Code;
+use codes::Truth;
 use std::alloc::AllocError;
 use std::alloc::Global;
 use words::AnswerFaultTold;
+use words::ClosingFault;
+use words::ClosingFaultTold;
 use words::Fault;
+use words::low_bits;
 
 // Both codes have as many places as a catalogue may have at most.
 const WIDTH: usize = MAX_WIDTH;
@@ -32,21 +43,55 @@ const WIDTH: usize = MAX_WIDTH;
 // A head, and a name for each place.
 const ANSWER_WORDS: usize = WIDTH + 1;
 
+// As an answer: a head, and a name for each kind of the ring.
+const RING_WORDS: usize = WIDTH + 1;
+
 // A head, a name for each place, two words for each line, and an end.
 const IMAGE_WORDS: usize = 2 + WIDTH + 2 * MAX_LINES;
 
 // The lists are taken once, and serve every call.
 #[derive(Drop)]
-pub struct Session {
+pub struct Session<C: Code> {
     catalogue: Catalogue,
+    table: Vec<C::Row>,
+    marks: Vec<u8>,
+    walk: Vec<usize>,
+    ring: Vec<u32>,
     answer: Vec<u32>,
     image: Vec<u32>,
 }
 
-impl Session {
-    pub fn new(heap: Global) -> Result<Session, SetUpFault> {
+// A table in which nothing descends from any kind.
+fn empty_rows<C: Code + Drop>(heap: Global) -> Result<Vec<C::Row>, AllocError>
+    ensures { λ r. ⌜ made r (λ v. vec-len v ≡ 512) ⌝ }
+{
+    let mut rows = Vec::new(heap);
+    rows.resize(WIDTH, C::empty().write())?;
+    Ok(rows)
+}
+
+// Where a ring stands, its words are told behind the refusal.
+fn refuse_closing(fault: ClosingFault, ring: &[u32], out: &mut Vec<u8>) -> Result<(), Trouble>
+    requires { ⌜ Fits fault (now ring) ⌝ }
+{
+    match fault {
+        ClosingFault::Ring => {
+            let count = low_bits(ring[0]) as usize + 1;
+            write_ring(out, fault.refusal(), &ring[0..count])?;
+            Ok(())
+        }
+        ClosingFault::List(_) => Err(Trouble::from(fault)),
+    }
+}
+
+impl<C: Code + Drop> Session<C> {
+    pub fn new(heap: Global) -> Result<Session<C>, SetUpFault> {
         Ok(Session {
             catalogue: Catalogue::new(heap, WIDTH)?,
+            table: empty_rows::<C>(heap)?,
+            marks: vec![in heap; 0; WIDTH]?,
+            walk: vec![in heap; 0; WIDTH]?,
+            ring: vec![in heap; 0; RING_WORDS]?,
             answer: vec![in heap; 0; ANSWER_WORDS]?,
             image: vec![in heap; 0; IMAGE_WORDS]?,
         })
@@ -68,12 +113,29 @@ impl Session {
             Call::Load(path) => self.load(rt, path, out)?,
             Call::Save(path) => self.save(rt, path, out)?,
             Call::Help => write_help(out)?,
+            Call::Close => return self.close(out),
             Call::Write => return self.write(out),
             Call::Recall(words) => return self.recall(&words, out),
             Call::Kits(path) => return self.kits(rt, path, out),
         }
         write_ok(out)?;
         Ok(())
+    }
+
+    // Fills the table with what descends from each kind.
+    fn close(&mut self, out: &mut Vec<u8>) -> Result<(), Trouble> {
+        match self.catalogue.close::<C>(
+            &mut self.table,
+            &mut self.marks,
+            &mut self.walk,
+            &mut self.ring,
+        ) {
+            Ok(()) => {
+                write_ok(out)?;
+                Ok(())
+            }
+            Err(fault) => refuse_closing(fault, &self.ring, out),
+        }
     }
 
     // Reads an image file, and tells how much stands.

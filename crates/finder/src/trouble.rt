@@ -5,6 +5,8 @@ use words::AnswerFault;
 use words::AnswerFaultTold;
 use words::CatalogueFault;
 use words::CatalogueFaultTold;
+use words::ClosingFault;
+use words::ClosingFaultTold;
 use words::Fault;
 use words::ImageFault;
 use words::ImageFaultTold;
@@ -70,6 +72,12 @@ pub impl From<ImageFault> for Trouble as TroubleFromImage {
 
 pub impl From<AnswerFault> for Trouble as TroubleFromAnswer {
     fn from(fault: AnswerFault) -> Trouble {
+        Trouble::Refused(fault.refusal())
+    }
+}
+
+pub impl From<ClosingFault> for Trouble as TroubleFromClosing {
+    fn from(fault: ClosingFault) -> Trouble {
         Trouble::Refused(fault.refusal())
     }
 }

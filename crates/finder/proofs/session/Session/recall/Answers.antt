@@ -6,7 +6,7 @@ use Rattle.finder.proofs.Written.{written-within}
 use Rattle.finder.proofs.session.Session.recall.Needs as need
 
 pub part-write-ok-words-end : need.part-write-ok-words-end
-part-write-ok-words-end c =
+part-write-ok-words-end g c =
     let left = stillStanding (view (c .args .self .now .catalogue) .book) (c .args .words .now) in
     let within = written-within (answerOf left) _ _ _ (c .in-Continue-count .ensures tt .list) in
     omega (arith, within, c .deref-mut .ensures .len, c .recall .kept .answer, c .deref .ensures .len)
