@@ -2,7 +2,6 @@
 ghost use mathlib.Core.Path.{_≡_};
 ghost use Rattle.std.specs.Of.Vec.{vec-len};
 ghost use Rattle.std.specs.Vec.{made};
-ghost use Rattle.finder.specs.Rings.{Fits};
 use super::calls::Call;
 use super::files::load_words;
 use super::files::save_words;
@@ -70,20 +69,6 @@ fn empty_rows<C: Code + Drop>(heap: Global) -> Result<Vec<C::Row>, AllocError>
     Ok(rows)
 }
 
-// Where a ring stands, its words are told behind the refusal.
-fn refuse_closing(fault: ClosingFault, ring: &[u32], out: &mut Vec<u8>) -> Result<(), Trouble>
-    requires { ⌜ Fits fault (now ring) ⌝ }
-{
-    match fault {
-        ClosingFault::Ring => {
-            let count = low_bits(ring[0]) as usize + 1;
-            write_ring(out, fault.refusal(), &ring[0..count])?;
-            Ok(())
-        }
-        ClosingFault::List(_) => Err(Trouble::from(fault)),
-    }
-}
-
 impl<C: Code + Drop> Session<C> {
     pub fn new(heap: Global) -> Result<Session<C>, SetUpFault> {
         Ok(Session {
@@ -122,7 +107,7 @@ impl<C: Code + Drop> Session<C> {
         Ok(())
     }
 
-    // Fills the table with what descends from each kind.
+    // Fills the table. Where a ring stands, the refusal's line has the ring's words besides.
     fn close(&mut self, out: &mut Vec<u8>) -> Result<(), Trouble> {
         match self.catalogue.close::<C>(
             &mut self.table,
@@ -130,12 +115,16 @@ impl<C: Code + Drop> Session<C> {
             &mut self.walk,
             &mut self.ring,
         ) {
-            Ok(()) => {
-                write_ok(out)?;
-                Ok(())
-            }
-            Err(fault) => refuse_closing(fault, &self.ring, out),
+            Ok(()) => write_ok(out)?,
+            Err(fault) => match fault {
+                ClosingFault::Ring => {
+                    let count = low_bits(self.ring[0]) as usize + 1;
+                    write_ring(out, fault.refusal(), &self.ring[0..count])?;
+                }
+                ClosingFault::List(_) => return Err(Trouble::from(fault)),
+            },
         }
+        Ok(())
     }
 
     // Reads an image file, and tells how much stands.

@@ -1,23 +1,24 @@
-use mathlib.Core.Path.{_≡_, sym, subst, _∙_}
-use mathlib.Core.List.{List}
-use Prim.Native.Nat.{ℕ}
+use mathlib.Core.Path.{_≡_, ap, _∙_}
+use Prim.Native.Nat.{ℕ, _+_, _≤_}
 use native.Mathlib.Omega.{arith}
 use lib.ListN.{length, drop}
-use Rattle.std.proofs.shelf.Lists.{take-at}
-use Rattle.closing.specs.Closing.{lent}
+use Rattle.std.specs.declared.result.Result.the-variants.{Err}
+use Rattle.words.specs.Words.{lowBits}
+use Rattle.closing.specs.Closing.{lent, Told}
 use Rattle.catalogue.specs.View.{view}
-use Rattle.finder.specs.Rings.{Fits}
-use Rattle.finder.proofs.Written.{ring-fits}
+use Rattle.finder.proofs.Written.{ring-within, ring-told}
 use Rattle.finder.proofs.session.Session.close.Needs as need
 
-pub refuse-closing-requires : need.refuse-closing-requires
-refuse-closing-requires g c κs =
-    let v = view (c .args .self .now .catalogue) in
-    let old = lent (c .deref-mut .result .now) (c .deref-mut-2 .result .now) (c .deref-mut-3 .result .now) (c .deref-mut-4 .result .now) in
-    let last = c .close .last in
-    let new = lent (last .table) (last .marks) (last .walk) (last .ring) in
+pub part-write-ring-end : need.part-write-ring-end
+part-write-ring-end g c =
     let ring = c .args .self .now .ring in
-    let count : length (last .ring) ≡ ring .len = omega (arith, c .deref-mut-4 .ensures .len, c .close .kept .ring) in
-    let same = c .deref .ensures .value ∙ take-at (last .ring) (drop (length (last .ring)) (ring .items)) (ring .len) count in
-    let fits = ring-fits (g .C·Truth .sort) (v .book .wide) (v .book .kinds) (v .places) (v .book .lines) old new (c .in-Err .fault) (c .in-Err .ensures tt .lists) in
-    subst (λ (words : List ℕ). Fits (c .in-Err .fault) words) (sym same) fits
+    let new = c .close .last .ring in
+    let v = view (c .args .self .now .catalogue) in
+    let told : Told (v .book .lines) (c .deref-mut-4 .result .now) new =
+    ring-told (g .C·Truth .sort) (v .book .wide) (v .book .kinds) (v .places) (v .book .lines)
+    (lent (c .deref-mut .result .now) (c .deref-mut-2 .result .now) (c .deref-mut-3 .result .now) (c .deref-mut-4 .result .now))
+    (lent (c .close .last .table) (c .close .last .marks) (c .close .last .walk) (c .close .last .ring))
+    (c .close .result) (c .in-Err .is ∙ ap Err (c .in-Ring .is)) (c .close .ensures .lists) in
+    let count : ring .len ≡ length new = omega (arith, c .deref-mut-4 .ensures .len, c .close .kept .ring) in
+    let within = ring-within _ _ new (drop (length new) (ring .items)) (ring .len) (c .index .result .now) told count in
+    omega (arith, c .low-bits .ensures ∙ ap lowBits (c .index .ensures), within, c .deref .ensures .len)
