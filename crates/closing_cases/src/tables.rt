@@ -7,7 +7,8 @@ pub struct Case {
     pub lines: &'static [(u32, u32)],
 }
 
-// A taxonomy whose codes are published; the serial of a kind is its index there, counted from one.
+// A taxonomy whose codes are published. The serial of a kind is its index there, counted from one; the lines are read off the codes,
+// each between two kinds with no third between them.
 #[derive(Clone, Copy)]
 pub struct Published {
     pub label: &'static str,
