@@ -1,4 +1,5 @@
 // Asking a question of a closed catalogue, and fitting a kind to a question, over any sort of code.
+#![tactic(auto)]
 mod answer;
 mod checks;
 mod covered;

@@ -1,4 +1,5 @@
 // The worked cases of asking, fitting and recalling in the clutch catalogue, over bits and over packets.
+#![tactic(auto)]
 mod tables;
 
 use asking::{ask, fit};

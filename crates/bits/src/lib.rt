@@ -1,4 +1,5 @@
 // Codes in bits: one bit a place.
+#![tactic(auto)]
 mod code;
 mod value;
 

@@ -1,4 +1,5 @@
 // A catalogue of kinds and lines: entering, withdrawing, closing, its image, and recalling kept answers.
+#![tactic(auto)]
 mod close;
 mod enter;
 mod image;

@@ -1,4 +1,5 @@
 // Cases for the catalogue: each refusal that its calls can give, its bounds, and a kit that outlives a kind.
+#![tactic(auto)]
 mod show;
 mod tables;
 

@@ -1,4 +1,5 @@
 // The finder at a terminal or a pipe: one call a line on standard input, one answer line back for each.
+#![tactic(auto)]
 mod calls;
 mod files;
 mod mistakes;

@@ -1,4 +1,5 @@
 // Images and kept answers as words: checked, and written from what stands.
+#![tactic(auto)]
 mod answers;
 mod checking;
 mod names;

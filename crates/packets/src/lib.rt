@@ -1,4 +1,5 @@
 // Packet codes: unbroken runs of places, from the left.
+#![tactic(auto)]
 mod bounds;
 mod code;
 mod fill;

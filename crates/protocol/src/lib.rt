@@ -1,4 +1,5 @@
 // The answer lines of the line protocol, and where a kept answer ends in a file of them.
+#![tactic(auto)]
 mod answers;
 mod kits;
 mod pieces;

@@ -1,4 +1,5 @@
 // Questions about kinds: reading their words, and evaluating them over any truth sort. Knows nothing of catalogues.
+#![tactic(auto)]
 mod checks;
 mod count;
 mod evaluation;

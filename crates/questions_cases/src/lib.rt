@@ -1,4 +1,5 @@
 // Questions with known answers, asked at yes and no.
+#![tactic(auto)]
 mod few;
 #[cfg(test)]
 mod tests;

@@ -1,4 +1,5 @@
 // Where a key stands in a row that is kept by rising key.
+#![tactic(auto)]
 mod keys;
 mod spot;
 

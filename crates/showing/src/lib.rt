@@ -1,4 +1,5 @@
 // How the case programs show what a call gave: done, yes or no, the words that it wrote, or its refusal.
+#![tactic(auto)]
 use std::io;
 use words::{Fault, Part, Refusal};
 
