@@ -1,10 +1,12 @@
 -- What the tests for kinds, places and lines that stand tell, place by place.
-use Rattle.std.proofs.Common.{◌≡◌, ℕ, zero, suc, ◌<◌, ◌≤◌, true, not, ◌&&◌, eqb, ltb, List, [], ◌∷◌, length, get_or, sym, refl, ◌∙◌, inl, inr, arith}
+use Rattle.std.proofs.Common.{◌≡◌, ℕ, zero, suc, ◌<◌, ◌≤◌, true, false, not, ◌&&◌, eqb, ltb, List, [], ◌∷◌, length, get_or, sym, refl, ◌∙◌, inl, inr, arith}
+use Rattle.std.specs.List.{IsDistinct, AllByRecursion, list_any}
 use Rattle.std.proofs.lemmas.List.{length-map}
-use Rattle.std.proofs.lemmas.Bool.{false≢true, and_parts, ltb-true, not-true, eqb-false, cases_Bool, cases_eq}
+use Rattle.std.proofs.lemmas.Map.Steps.{length-le_from_distinct_below}
+use Rattle.std.proofs.lemmas.Bool.{false≢true, and_parts, or_parts, or_cases, ltb-true, not-true, eqb-true, eqb-false, ne_eqb, cases_Bool, cases_eq}
 use Rattle.descent.specs.declared.line.Line.{Line}
 use Rattle.descent.specs.declared.standing.Standing.{Standing}
-use Rattle.descent.specs.Lines.{has_line, serials_of, stands, Distinct}
+use Rattle.descent.specs.Lines.{has_line, serials_of, places_of, stands, Distinct}
 use Rattle.descent.specs.Order.{rising_from}
 use Rattle.descent.specs.Proper.{CanHold, below, distinct, joins, joining}
 use Rattle.descent.specs.Closure.{Placed}
@@ -90,14 +92,43 @@ proper_placed w kinds places ls paired rise low apart join = record {
   between = λ c p h. let q = joining-line kinds ls join c p h in (q.0, q.1);
 }
 
--- what is lent, a catalogue can hold
-pub lent-held : (s : Standing) → CanHold s.width (serials_of s.kinds.now) s.lines.now
-lent-held s = record {
+-- a number that is not in the list differs from each of it
+differs_from : (x : ℕ) (xs : List ℕ) → stands x xs ≡ false → AllByRecursion (λ y. eqb x y ≡ false) xs
+differs_from x [] h = tt
+differs_from x (y ∷ ys) h =
+    let p = or_parts (eqb y x) (stands x ys) h in
+    (ne_eqb x y (λ e. eqb-false y x p.0 (sym e)), differs_from x ys p.1)
+
+distinct_keys : (xs : List ℕ) → distinct xs ≡ true → IsDistinct eqb xs
+unfolding IsDistinct
+distinct_keys [] d = tt
+distinct_keys (x ∷ xs) d =
+    let p = and_parts (not (stands x xs)) (distinct xs) d in
+    (differs_from x xs (not-true (stands x xs) p.0), distinct_keys xs p.1)
+
+below_each : (w : ℕ) (xs : List ℕ) → below w xs ≡ true → (q : ℕ) → list_any (eqb q) xs ≡ true → q < w
+below_each w [] b q h = absurd (false≢true h)
+below_each w (x ∷ xs) b q h =
+    let p = and_parts (ltb x w) (below w xs) b in
+    elim (or_cases (eqb q x) (list_any (eqb q) xs) h) [
+      | inl e ↦ let same = eqb-true q x e in let low = ltb-true x w p.0 in omega (arith, same, low)
+      | inr e ↦ below_each w xs p.1 q e
+    ]
+
+-- kinds at different places below the width are no more than the places
+pub standing_fits : (s : Standing) → length s.kinds.now ≤ s.width
+standing_fits s =
+    let fits = length-le_from_distinct_below (places_of s.kinds.now) s.width (distinct_keys (places_of s.kinds.now) s.apart) (below_each s.width (places_of s.kinds.now) s.low) in
+    omega (arith, fits, length-map s.kinds.now (λ k. k.place))
+
+-- what is lent, a catalogue can hold, where the lines are few enough
+pub lent-held : (s : Standing) → length s.lines.now ≤ 2048 → CanHold s.width (serials_of s.kinds.now) s.lines.now
+lent-held s few = record {
   wide = s.wide.1;
-  places = omega (arith, s.fits, length-map s.kinds.now (λ k. k.serial));
+  places = omega (arith, standing_fits s, length-map s.kinds.now (λ k. k.serial));
   rising = s.rising;
   serials = s.serials;
   ordered = s.ordered;
   joins = s.joins;
-  few = s.few;
+  few = few;
 }

@@ -1,5 +1,5 @@
 // What stands in a catalogue, lent to those who only read it.
-ghost use Rattle.std.specs.Prelude.{◌≡◌, ℕ, ◌^◌, ◌≤◌, true, map, length};
+ghost use Rattle.std.specs.Prelude.{◌≡◌, ℕ, ◌^◌, ◌≤◌, true, map};
 ghost use Rattle.descent.specs.Order.{rising_from, line_key};
 ghost use Rattle.descent.specs.Proper.{below, distinct, joining};
 
@@ -12,16 +12,14 @@ pub const MAX_WIDTH: usize = 512;
 // The most lines that may stand.
 pub const MAX_LINES: usize = 2048;
 
-// Kinds by rising serial, each at a place of its own below the width; at most so many lines, by rising child, then rising parent,
-// each between two standing kinds.
+// Kinds by rising serial, each at a place of its own below the width; lines by rising child, then rising parent, each between two
+// standing kinds.
 #[derive(Drop)]
 pub struct Standing<'a> {
     pub width: usize,
     pub kinds: &'a [Kind],
     pub lines: &'a [Line],
     ghost wide: { (1 ≤ width) × (width ≤ 512) },
-    ghost fits: { length kinds.now ≤ width },
-    ghost few: { length lines.now ≤ 2048 },
     ghost rising: { rising_from 0 (map (λ k. k.serial) kinds.now) ≡ true },
     ghost serials: { below (2 ^ 28) (map (λ k. k.serial) kinds.now) ≡ true },
     ghost low: { below width (map (λ k. k.place) kinds.now) ≡ true },

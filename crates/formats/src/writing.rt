@@ -42,6 +42,7 @@ fn write_lines(lines: &[Line], at: usize, image: &mut [u32])
 // Writes the image of what stands, and tells how many words it has. The image reads back as the same kinds and lines, and no
 // other kinds and lines have it.
 pub fn write_image(standing: &Standing<'_>, image: &mut [u32]) -> Result<usize, ImageFault>
+    requires { length standing.now.lines.now ≤ 2048 }
     ensures says { Says image_told result (list_refusal (length image.old) (image_length (serials_of standing.now.kinds.now) standing.now.lines.now)) }
     ensures list { Listed (image_of (serials_of standing.now.kinds.now) standing.now.lines.now) image.old image.new result }
     ensures back { ReadsBack standing.now.width (serials_of standing.now.kinds.now) standing.now.lines.now }

@@ -9,7 +9,7 @@ use Rattle.formats.proofs.answers.check_answer.Goals as goal
 
 pub returns-in_err-check_names : goal.returns-in_err-check_names
 returns-in_err-check_names c =
-    let p = err_from_is_err_and c.from-residual.result c.from-residual.ensures.1 in
+    let p = err_from_is_err_and c.from_residual.result c.from_residual.ensures.1 in
     let ws = c.args.words.now in
     let some : 0 < length ws = omega (arith, eqb-false (length ws) 0 (sym c.if-is_empty.ensures)) in
     rw (p.1, p.2)

@@ -4,6 +4,7 @@ use Rattle.std.proofs.lemmas.List.{length-map, take_all, take_rest}
 use Rattle.std.proofs.lemmas.Bool.{ltb-false}
 use Rattle.descent.specs.declared.standing.Standing.{Standing}
 use Rattle.descent.specs.Lines.{serials_of, stands}
+use Rattle.descent.proofs.Proper.{standing_fits}
 use Rattle.descent.specs.Order.{rising_from}
 use Rattle.words.specs.declared.word.WordKind.TheVariants.{Name, AnswerHead}
 use Rattle.words.specs.Words.{low_bits, word_of}
@@ -28,7 +29,7 @@ few s ws ns n e r c =
     let all = take_all (length ns) ns (omega arith) in
     let m = kept_few (λ k. stands k (serials_of s.kinds.now)) ns (serials_of s.kinds.now) (length ns) s.rising (ap (λ (us : List ℕ). rising_from 0 (serials_in us)) e ∙ r) (λ _. refl) in
     let same = ap (λ (us : List ℕ). length (still_among (serials_of s.kinds.now) (serials_in us))) all in
-    omega (arith, s.wide.1, length-map s.kinds.now (λ k. k.serial), s.fits)
+    omega (arith, s.wide.1, length-map s.kinds.now (λ k. k.serial), standing_fits s)
 
 pub overflow_cast-count : goal.overflow_cast-count
 overflow_cast-count c =

@@ -4,6 +4,7 @@ use Rattle.std.proofs.lemmas.List.Edits.{paste_none}
 use Rattle.std.proofs.lemmas.List.{append-nil, length-map, length_push, map_push, take_all}
 use Rattle.descent.specs.declared.standing.Standing.{Standing}
 use Rattle.descent.specs.Lines.{serials_of, stands}
+use Rattle.descent.proofs.Proper.{standing_fits}
 use Rattle.descent.specs.Order.{rising_from}
 use Rattle.words.specs.declared.word.WordKind.TheVariants.{Name}
 use Rattle.words.specs.Words.{low_bits, word_of}
@@ -60,15 +61,15 @@ room : (s : Standing) (names : List ℕ) (i x n : ℕ) → rising_from 0 (serial
 room s names i x n r l e st c =
     let m = more (serials_of s.kinds.now) names i x n l e st c in
     let few = kept_few (λ k. stands k (serials_of s.kinds.now)) names (serials_of s.kinds.now) (i + 1) s.rising r (λ _. refl) in
-    (omega (arith, m.1, length-map s.kinds.now (λ k. k.serial), s.fits), s.wide.1)
+    (omega (arith, m.1, length-map s.kinds.now (λ k. k.serial), standing_fits s), s.wide.1)
 
 pub overflow_add-answer : goal.overflow_add-answer
 overflow_add-answer c =
     let l = room c.args.standing.now c.args.names.now c.loop-word.word-index c.low_bits-serial.result c.loop-word.count c.requires.rising c.loop-word-test.true c.low_bits-serial.ensures (sym c.if-is_standing.ensures) c.loop-word.invariant.0 in
     omega (arith, l.0, l.1)
 
-pub offset-bounds-answer-count : goal.offset-bounds-answer-count
-offset-bounds-answer-count c =
+pub offset_bounds-answer-count : goal.offset_bounds-answer-count
+offset_bounds-answer-count c =
     let l = room c.args.standing.now c.args.names.now c.loop-word.word-index c.low_bits-serial.result c.loop-word.count c.requires.rising c.loop-word-test.true c.low_bits-serial.ensures (sym c.if-is_standing.ensures) c.loop-word.invariant.0 in
     omega (arith, l.0, l.1)
 

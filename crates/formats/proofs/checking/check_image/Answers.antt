@@ -21,7 +21,7 @@ parts ws n =
 
 pub returns-in_err-check_names : goal.returns-in_err-check_names
 returns-in_err-check_names c =
-    let p = err_from_is_err_and c.from-residual.result c.from-residual.ensures.1 in
+    let p = err_from_is_err_and c.from_residual.result c.from_residual.ensures.1 in
     let ws = c.args.words.now in
     let some : 0 < length ws = omega (arith, eqb-false (length ws) 0 (sym c.if-is_empty.ensures)) in
     rw (p.1, p.2)
@@ -65,7 +65,7 @@ check_lines-requires c =
 
 pub returns-in_err-check_lines : goal.returns-in_err-check_lines
 returns-in_err-check_lines c =
-    let p = err_from_is_err_and c.from-residual-in_err-check_lines.result c.from-residual-in_err-check_lines.ensures.1 in
+    let p = err_from_is_err_and c.from_residual-in_err-check_lines.result c.from_residual-in_err-check_lines.ensures.1 in
     let ws = c.args.words.now in
     let n = c.low_bits-count.result in
     let some : 0 < length ws = omega (arith, eqb-false (length ws) 0 (sym c.if-is_empty.ensures)) in

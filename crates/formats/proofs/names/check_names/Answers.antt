@@ -9,7 +9,7 @@ returns-then-at-words c = λ due.
 
 pub returns-in_err-last : goal.returns-in_err-last
 returns-in_err-last c = λ due.
-    let p = err_from_is_err_and c.from-residual.result c.from-residual.ensures.1 in
+    let p = err_from_is_err_and c.from_residual.result c.from_residual.ensures.1 in
     rw (p.1, p.2)
     (c.loop-i.invariant due ∙ names_wrong due c.args.words.now c.args.count c.loop-i.last c.loop-i.i c.loop-i-test.true _ c.if-at-words.false (c.in_err-last.ensures.says due))
 

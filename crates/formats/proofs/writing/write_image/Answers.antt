@@ -4,7 +4,7 @@ use Rattle.std.proofs.lemmas.Result.{err_from_is_err_and}
 use Rattle.std.proofs.lemmas.Bool.{ltb-false}
 use Rattle.descent.specs.declared.standing.Standing.{Standing}
 use Rattle.descent.specs.Lines.{serials_of}
-use Rattle.descent.proofs.Proper.{lent-held}
+use Rattle.descent.proofs.Proper.{standing_fits, lent-held}
 use Rattle.descent.proofs.Rows.{children_below, parents_below}
 use Rattle.words.specs.declared.word.WordKind.TheVariants.{ImageHead, ImageEnd}
 use Rattle.words.specs.Words.{word_of}
@@ -18,7 +18,7 @@ use Rattle.formats.proofs.writing.write_image.Goals as goal
 
 -- what stands is few enough that every count fits a word
 few : (s : Standing) → (length s.kinds.now ≤ 512) × (length s.kinds.now ≡ length (serials_of s.kinds.now))
-few s = (omega (arith, s.fits, s.wide.1), sym (length-map s.kinds.now (λ k. k.serial)))
+few s = (omega (arith, standing_fits s, s.wide.1), sym (length-map s.kinds.now (λ k. k.serial)))
 
 -- the room that is asked for is the image's length
 asked : (s : Standing) → 1 + length s.kinds.now + 2 * length s.lines.now + 1 ≡ image_length (serials_of s.kinds.now) s.lines.now
@@ -27,13 +27,13 @@ asked s = omega (arith, (few s).1)
 pub returns-in_err-need : goal.returns-in_err-need
 returns-in_err-need c =
     let s = c.args.standing.now in
-    let p = err_from_is_err_and c.from-residual.result c.from-residual.ensures.1 in
+    let p = err_from_is_err_and c.from_residual.result c.from_residual.ensures.1 in
     rw (p.1, p.2)
     record {
       says = ap (list_refusal (length c.args.image.now)) (sym (asked s)) ∙ c.in_err-need.ensures;
       list = refl;
-      back = reads_back s.width (serials_of s.kinds.now) s.lines.now (lent-held s);
-      alone = tells_apart s.width (serials_of s.kinds.now) s.lines.now (lent-held s);
+      back = reads_back s.width (serials_of s.kinds.now) s.lines.now (lent-held s c.requires);
+      alone = tells_apart s.width (serials_of s.kinds.now) s.lines.now (lent-held s c.requires);
     }
 
 pub overflow_cast-names : goal.overflow_cast-names
@@ -56,7 +56,7 @@ write_lines-requires c =
     }
 
 pub overflow_cast-end : goal.overflow_cast-end
-overflow_cast-end c = let s = c.args.standing.now in omega (arith, (few s).0, s.few)
+overflow_cast-end c = let s = c.args.standing.now in omega (arith, (few s).0, c.requires)
 
 pub returns : goal.returns
 returns c =
@@ -74,11 +74,11 @@ returns c =
         omega (arith, k.1, length-image kinds lines, length-append (image_body kinds lines) (word_of ImageEnd (length (image_body kinds lines)) ∷ [])),
         image_written kinds lines old c.write_names.new.image c.write_lines.new.image n m c.make_word.result c.make_word-2.result k.1 refl (omega arith)
             (c.make_word.ensures ∙ ap (word_of ImageHead) (low_same n (omega (arith, k.0))))
-            (c.make_word-2.ensures ∙ ap (word_of ImageEnd) (low_same (1 + n + 2 * m) (omega (arith, k.0, s.few))))
+            (c.make_word-2.ensures ∙ ap (word_of ImageEnd) (low_same (1 + n + 2 * m) (omega (arith, k.0, c.requires))))
             c.write_names.ensures
             c.write_lines.ensures
             (omega (arith, c.write_lines.auto.image, c.write_names.auto.image, length-set old 0 c.make_word.result)),
       );
-      back = reads_back s.width kinds lines (lent-held s);
-      alone = tells_apart s.width kinds lines (lent-held s);
+      back = reads_back s.width kinds lines (lent-held s c.requires);
+      alone = tells_apart s.width kinds lines (lent-held s c.requires);
     }
