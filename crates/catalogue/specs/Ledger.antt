@@ -10,7 +10,7 @@ use Rattle.words.specs.declared.refusal.Refusal.{Refusal}
 use Rattle.words.specs.declared.refusal.Part.TheVariants as part
 use Rattle.words.specs.Refusals.{refusal, refuse_if, first_of, list_refusal, serial_refusal}
 use Rattle.descent.specs.Order.{line_key, filed}
-use Rattle.formats.specs.Formats.{image_length, image_refusal, kinds_in, lines_in, recall_refusal, named_in, still_among}
+use Rattle.formats.specs.Formats.{image_length, image_refusal, kinds_in, lines_in, answer_refusal, named_in}
 
 pub record Ledger : Type 0 where
   -- how many places there are
@@ -67,7 +67,7 @@ refused l (withdraw_line c p) = first_of (ends_refusal l c p ∷ refuse_if (not 
 refused l (read_image ws) =
     first_of (refuse_if (nat_lt 0 (length l.kinds)) (refusal 18 0 part.Image) ∷ image_refusal l.wide ws ∷ [])
 refused l (write_image room) = list_refusal room (image_length l.kinds l.lines)
-refused l (recall ws room) = recall_refusal l.wide ws room
+refused l (recall ws room) = first_of (list_refusal room (l.wide + 1) ∷ answer_refusal ws ∷ [])
 refused l (close table marks walk ring) =
     first_of (list_refusal table l.wide
     ∷ list_refusal marks l.wide
@@ -119,7 +119,7 @@ after l call = unless (refused l call) (accepted l call) l
 
 -- of the kinds that an answer names, those that stand
 abbrev pub still_standing : Ledger → List ℕ → List ℕ
-still_standing l answer = still_among l.kinds (named_in answer)
+still_standing l answer = filter (λ k. stands k l.kinds) (named_in answer)
 
 -- the set of a question: a name means the kinds that descend from it, all the standing kinds
 abbrev pub set_of : Ledger → List ℕ → ℕ → Bool

@@ -47,22 +47,17 @@ invariant_of-self c =
     let look = look_in (λ k. k.serial) (vec_items s.kinds) _ c.args.serial (Gap c.in-Gap.at) c.deref.ensures.value s.rising c.in-Gap.ensures.located in
     let good = good_serial c.args.serial 0 c.in_ok-check_serial.ensures in
     let done = c.seat.ensures.seated in
-    let cap = c.seat.ensures.capacity in (
-      s.wide,
-      (
-        (omega (arith, cap.0, s.room.0), omega (arith, cap.1, s.room.1), s.room.2),
-        (
-          entered_rising _ _ _ _ _ _ look done good.0 s.rising,
-          (
-            entered_below _ _ _ _ _ _ look done _ good.1 s.serials,
-            (
-              entered_seats _ _ _ _ _ _ look done s.width s.seats,
-              (s.ordered, (entered_joining _ _ _ _ _ _ look done _ s.joins, (s.few, tt))),
-            ),
-          ),
-        ),
-      ),
-    )
+    let cap = c.seat.ensures.capacity in
+    record {
+      wide = s.wide;
+      room = (omega (arith, cap.0, s.room.0), omega (arith, cap.1, s.room.1), s.room.2);
+      rising = entered_rising _ _ _ _ _ _ look done good.0 s.rising;
+      serials = entered_below _ _ _ _ _ _ look done _ good.1 s.serials;
+      seats = entered_seats _ _ _ _ _ _ look done s.width s.seats;
+      ordered = s.ordered;
+      joins = entered_joining _ _ _ _ _ _ look done _ s.joins;
+      few = s.few;
+    }
 
 pub returns : goal.returns
 returns c =

@@ -52,29 +52,18 @@ invariant_of-self c =
     let key = ends_passed (view s).book c.args.child c.args.parent ok in
     let look = look_line (vec_items s.lines) _ x _ (Gap c.in-Gap.at) c.deref.ensures.value c.key.ensures s.ordered c.in-Gap.ensures.located in
     let e = c.in-Ok.ensures in
-    let free : vec_len s.lines < 2048 = omega (arith, c.len.ensures, c.if-len-ge-MAX-LINES.false) in (
-      s.wide,
-      (
-        (s.room.0, s.room.1, omega (arith, e.capacity, s.room.2)),
-        (
-          s.rising,
-          (
-            s.serials,
-            (
-              s.seats,
-              (
-                ap (λ (ls : List Line). rising_from 0 (map line_key ls)) e.items ∙ ap (rising_from 0) (map_inserted line_key (vec_items s.lines) c.in-Gap.at x)
-                    ∙ rising_inserted 0 (map line_key (vec_items s.lines)) (line_key x) c.in-Gap.at s.ordered key.1 look,
-                (
-                  ap (joining (view s).book.kinds) e.items ∙ joining_inserted (view s).book.kinds (vec_items s.lines) c.in-Gap.at x key.0 s.joins,
-                  (omega (arith, e.len, free), tt),
-                ),
-              ),
-            ),
-          ),
-        ),
-      ),
-    )
+    let free : vec_len s.lines < 2048 = omega (arith, c.len.ensures, c.if-len-ge-MAX-LINES.false) in
+    record {
+      wide = s.wide;
+      room = (s.room.0, s.room.1, omega (arith, e.capacity, s.room.2));
+      rising = s.rising;
+      serials = s.serials;
+      seats = s.seats;
+      ordered = ap (λ (ls : List Line). rising_from 0 (map line_key ls)) e.items ∙ ap (rising_from 0) (map_inserted line_key (vec_items s.lines) c.in-Gap.at x)
+          ∙ rising_inserted 0 (map line_key (vec_items s.lines)) (line_key x) c.in-Gap.at s.ordered key.1 look;
+      joins = ap (joining (view s).book.kinds) e.items ∙ joining_inserted (view s).book.kinds (vec_items s.lines) c.in-Gap.at x key.0 s.joins;
+      few = omega (arith, e.len, free);
+    }
 
 pub returns : goal.returns
 returns c =

@@ -13,22 +13,14 @@ invariant_of-result c =
     let w = c.args.width in
     let k = c.in_ok-kinds.ensures in
     let f = c.in_ok-free.ensures in
-    let l = c.in_ok-lines.ensures in (
-      (omega arith, omega arith),
-      (
-        (k.capacity, f.1, l.capacity),
-        (
-          ap (λ (xs : List Kind). rising_from 0 (serials_of xs)) k.items,
-          (
-            ap (λ (xs : List Kind). below (2 ^ 28) (serials_of xs)) k.items,
-            (
-              ap₂ (λ (xs : List Kind) (ys : List ℕ). seated w (places_of xs ++ ys)) k.items f.0 ∙ seated_first w,
-              (
-                ap (λ (xs : List Line). rising_from 0 (map line_key xs)) l.items,
-                (ap (λ (xs : List Line). joining (serials_of c.in_ok-kinds.kinds.items) xs) l.items, (omega (arith, l.len), tt)),
-              ),
-            ),
-          ),
-        ),
-      ),
-    )
+    let l = c.in_ok-lines.ensures in
+    record {
+      wide = (omega arith, omega arith);
+      room = (k.capacity, f.1, l.capacity);
+      rising = ap (λ (xs : List Kind). rising_from 0 (serials_of xs)) k.items;
+      serials = ap (λ (xs : List Kind). below (2 ^ 28) (serials_of xs)) k.items;
+      seats = ap₂ (λ (xs : List Kind) (ys : List ℕ). seated w (places_of xs ++ ys)) k.items f.0 ∙ seated_first w;
+      ordered = ap (λ (xs : List Line). rising_from 0 (map line_key xs)) l.items;
+      joins = ap (λ (xs : List Line). joining (serials_of c.in_ok-kinds.kinds.items) xs) l.items;
+      few = omega (arith, l.len);
+    }

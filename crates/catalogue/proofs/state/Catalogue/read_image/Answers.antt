@@ -50,7 +50,7 @@ returns-then-not-is_empty c =
 pub returns-in_err-count : goal.returns-in_err-count
 returns-in_err-count c =
     let s = c.args.self.now in
-    let p = err_from_is_err_and c.from-residual.result c.from-residual.ensures.1 in
+    let p = err_from_is_err_and c.from_residual.result c.from_residual.ensures.1 in
     let is = empty s (eqb-true (vec_len s.kinds) 0 (sym c.if-not-is_empty.ensures)) in
     rw (p.1, p.2)
     record {
@@ -100,28 +100,17 @@ invariant_of-self c =
     let is = empty s (eqb-true (vec_len s.kinds) 0 (sym c.if-not-is_empty.ensures)) in
     let cap = c.seat_names.ensures.capacity in
     let kinds : serials_of (vec_items c.seat_names.new.kinds) ≡ kinds_in ws = c.seat_names.ensures.serials ∙ ap₂ (λ (us vs : List ℕ). us ++ vs) is.kinds cut.named in
-    let lines : vec_items c.take_lines.new.lines ≡ lines_in ws = c.take_lines.ensures.items ∙ ap₂ (λ (us vs : List Line). us ++ vs) is.lines cut.lined in (
-      s.wide,
-      (
-        (omega (arith, cap.0, s.room.0), omega (arith, cap.1, s.room.1), omega (arith, c.take_lines.ensures.capacity, s.room.2)),
-        (
-          ap (rising_from 0) kinds ∙ hold.rising,
-          (
-            ap (below (2 ^ 28)) kinds ∙ hold.serials,
-            (
-              c.seat_names.ensures.seats s.width s.seats,
-              (
-                ap (λ (ls : List Line). rising_from 0 (map line_key ls)) lines ∙ hold.ordered,
-                (
-                  ap₂ (λ (ks : List ℕ) (ls : List Line). joining ks ls) kinds lines ∙ hold.joins,
-                  (omega (arith, ap length lines, hold.few, c.take_lines.new.lines.ok.0), tt),
-                ),
-              ),
-            ),
-          ),
-        ),
-      ),
-    )
+    let lines : vec_items c.take_lines.new.lines ≡ lines_in ws = c.take_lines.ensures.items ∙ ap₂ (λ (us vs : List Line). us ++ vs) is.lines cut.lined in
+    record {
+      wide = s.wide;
+      room = (omega (arith, cap.0, s.room.0), omega (arith, cap.1, s.room.1), omega (arith, c.take_lines.ensures.capacity, s.room.2));
+      rising = ap (rising_from 0) kinds ∙ hold.rising;
+      serials = ap (below (2 ^ 28)) kinds ∙ hold.serials;
+      seats = c.seat_names.ensures.seats s.width s.seats;
+      ordered = ap (λ (ls : List Line). rising_from 0 (map line_key ls)) lines ∙ hold.ordered;
+      joins = ap₂ (λ (ks : List ℕ) (ls : List Line). joining ks ls) kinds lines ∙ hold.joins;
+      few = omega (arith, ap length lines, hold.few, c.take_lines.new.lines.ok.0);
+    }
 
 pub returns : goal.returns
 returns c =

@@ -45,22 +45,17 @@ invariant_of-self c =
     let s = c.args.self.now in
     let look = look_in (λ k. k.serial) (vec_items s.kinds) _ c.args.serial (Here c.in-Here.at) c.deref.ensures.value s.rising c.in-Here.ensures.located in
     let done = c.unseat.ensures.freed in
-    let cap = c.unseat.ensures.capacity in (
-      s.wide,
-      (
-        (omega (arith, cap.0, s.room.0), omega (arith, cap.1, s.room.1), s.room.2),
-        (
-          withdrawn_rising _ _ _ _ _ _ s.rising look done,
-          (
-            withdrawn_below _ _ _ _ _ _ s.rising look done _ s.serials,
-            (
-              withdrawn_seats _ _ _ _ _ _ s.rising look done s.width s.seats,
-              (s.ordered, (withdrawn_joining _ _ _ _ _ _ s.rising look done _ (ap (mentioned c.args.serial) (sym c.deref-2.ensures.value) ∙ sym c.if-has_line.ensures) s.joins, (s.few, tt))),
-            ),
-          ),
-        ),
-      ),
-    )
+    let cap = c.unseat.ensures.capacity in
+    record {
+      wide = s.wide;
+      room = (omega (arith, cap.0, s.room.0), omega (arith, cap.1, s.room.1), s.room.2);
+      rising = withdrawn_rising _ _ _ _ _ _ s.rising look done;
+      serials = withdrawn_below _ _ _ _ _ _ s.rising look done _ s.serials;
+      seats = withdrawn_seats _ _ _ _ _ _ s.rising look done s.width s.seats;
+      ordered = s.ordered;
+      joins = withdrawn_joining _ _ _ _ _ _ s.rising look done _ (ap (mentioned c.args.serial) (sym c.deref-2.ensures.value) ∙ sym c.if-has_line.ensures) s.joins;
+      few = s.few;
+    }
 
 pub returns : goal.returns
 returns c =

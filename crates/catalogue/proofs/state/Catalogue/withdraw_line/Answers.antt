@@ -35,29 +35,18 @@ remove-requires c =
 pub invariant_of-self : goal.invariant_of-self
 invariant_of-self c =
     let s = c.args.self.now in
-    let e = c.remove.ensures in (
-      s.wide,
-      (
-        (s.room.0, s.room.1, omega (arith, e.capacity, s.room.2)),
-        (
-          s.rising,
-          (
-            s.serials,
-            (
-              s.seats,
-              (
-                ap (λ (ls : List Line). rising_from 0 (map line_key ls)) e.items ∙ ap (rising_from 0) (map_removed line_key (vec_items s.lines) c.in-Here.at)
-                    ∙ rising_removed 0 (map line_key (vec_items s.lines)) c.in-Here.at s.ordered,
-                (
-                  ap (joining (view s).book.kinds) e.items ∙ joining_removed (view s).book.kinds (vec_items s.lines) c.in-Here.at s.joins,
-                  (omega (arith, e.len, s.few), tt),
-                ),
-              ),
-            ),
-          ),
-        ),
-      ),
-    )
+    let e = c.remove.ensures in
+    record {
+      wide = s.wide;
+      room = (s.room.0, s.room.1, omega (arith, e.capacity, s.room.2));
+      rising = s.rising;
+      serials = s.serials;
+      seats = s.seats;
+      ordered = ap (λ (ls : List Line). rising_from 0 (map line_key ls)) e.items ∙ ap (rising_from 0) (map_removed line_key (vec_items s.lines) c.in-Here.at)
+          ∙ rising_removed 0 (map line_key (vec_items s.lines)) c.in-Here.at s.ordered;
+      joins = ap (joining (view s).book.kinds) e.items ∙ joining_removed (view s).book.kinds (vec_items s.lines) c.in-Here.at s.joins;
+      few = omega (arith, e.len, s.few);
+    }
 
 pub returns : goal.returns
 returns c =

@@ -1,10 +1,13 @@
-use Rattle.std.proofs.Common.{length}
+use Rattle.std.proofs.Common.{length, ap, arith}
 use Rattle.words.specs.Refusals.{Says, image_told, list_refusal}
 use Rattle.formats.specs.Formats.{Listed, image_of, image_length}
 use Rattle.formats.specs.Images.{ReadsBack, TellsApart}
 use Rattle.catalogue.specs.View.{view}
-use Rattle.catalogue.proofs.Shown.{as_shown}
+use Rattle.catalogue.proofs.Shown.{as_shown, standing_held}
 use Rattle.catalogue.proofs.state.Catalogue.write_image.Goals as goal
+
+pub write_image-requires : goal.write_image-requires
+write_image-requires c = omega (arith, ap length c.standing.ensures.lines, (standing_held c.args.self.now).few)
 
 pub returns : goal.returns
 returns c =
