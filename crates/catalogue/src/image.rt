@@ -9,6 +9,7 @@ ghost use Rattle.catalogue.specs.View.{view, Moved};
 
 use super::state::Catalogue;
 use descent::{Kind, Line};
+use formats::ImageSource;
 use words::{ImageFault, low_bits};
 
 // Seats a kind for each name, one behind another, at free places.
@@ -55,7 +56,10 @@ impl Catalogue {
         ensures back { ReadsBack (view self.now).book.wide (view self.now).book.kinds (view self.now).book.lines }
         ensures alone { TellsApart (view self.now).book.kinds (view self.now).book.lines }
     {
-        formats::write_image(&self.standing(), image)
+        let source = ImageSource {
+            standing: self.standing(),
+        };
+        formats::write_image(&source, image)
     }
 
     // Fills an empty catalogue with the kinds and lines of an image, which then writes back as the same words.

@@ -10,7 +10,8 @@ ghost use Rattle.words.specs.Refusals.{Says, image_told, list_refusal};
 ghost use Rattle.formats.specs.Formats.{Listed, image_of, image_length, line_words};
 ghost use Rattle.formats.specs.Images.{ReadsBack, TellsApart};
 
-use descent::{Kind, Line, Standing};
+use super::source::ImageSource;
+use descent::{Kind, Line};
 use words::{ImageFault, WordKind, make_word, need};
 
 // Writes a name for each kind behind the place of a head.
@@ -41,13 +42,13 @@ fn write_lines(lines: &[Line], at: usize, image: &mut [u32])
 
 // Writes the image of what stands, and tells how many words it has. The image reads back as the same kinds and lines, and no
 // other kinds and lines have it.
-pub fn write_image(standing: &Standing<'_>, image: &mut [u32]) -> Result<usize, ImageFault>
-    requires { length standing.now.lines.now ≤ 2048 }
-    ensures says { Says image_told result (list_refusal (length image.old) (image_length (serials_of standing.now.kinds.now) standing.now.lines.now)) }
-    ensures list { Listed (image_of (serials_of standing.now.kinds.now) standing.now.lines.now) image.old image.new result }
-    ensures back { ReadsBack standing.now.width (serials_of standing.now.kinds.now) standing.now.lines.now }
-    ensures alone { TellsApart (serials_of standing.now.kinds.now) standing.now.lines.now }
+pub fn write_image(source: &ImageSource<'_>, image: &mut [u32]) -> Result<usize, ImageFault>
+    ensures says { Says image_told result (list_refusal (length image.old) (image_length (serials_of source.now.standing.kinds.now) source.now.standing.lines.now)) }
+    ensures list { Listed (image_of (serials_of source.now.standing.kinds.now) source.now.standing.lines.now) image.old image.new result }
+    ensures back { ReadsBack source.now.standing.width (serials_of source.now.standing.kinds.now) source.now.standing.lines.now }
+    ensures alone { TellsApart (serials_of source.now.standing.kinds.now) source.now.standing.lines.now }
 {
+    let standing = &source.standing;
     let names = standing.kinds.len();
     let end = 1 + names + 2 * standing.lines.len();
     need(image.len(), end + 1)?;

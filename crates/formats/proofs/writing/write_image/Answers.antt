@@ -26,28 +26,28 @@ asked s = omega (arith, (few s).1)
 
 pub returns-in_err-need : goal.returns-in_err-need
 returns-in_err-need c =
-    let s = c.args.standing.now in
+    let s = c.args.source.now.standing in
     let p = err_from_is_err_and c.from_residual.result c.from_residual.ensures.1 in
     rw (p.1, p.2)
     record {
       says = ap (list_refusal (length c.args.image.now)) (sym (asked s)) ∙ c.in_err-need.ensures;
       list = refl;
-      back = reads_back s.width (serials_of s.kinds.now) s.lines.now (lent-held s c.requires);
-      alone = tells_apart s.width (serials_of s.kinds.now) s.lines.now (lent-held s c.requires);
+      back = reads_back s.width (serials_of s.kinds.now) s.lines.now (lent-held s c.args.source.now.few);
+      alone = tells_apart s.width (serials_of s.kinds.now) s.lines.now (lent-held s c.args.source.now.few);
     }
 
 pub overflow_cast-names : goal.overflow_cast-names
-overflow_cast-names c = omega (arith, (few c.args.standing.now).0)
+overflow_cast-names c = omega (arith, (few c.args.source.now.standing).0)
 
 pub write_names-requires : goal.write_names-requires
 write_names-requires c =
-    let s = c.args.standing.now in
+    let s = c.args.source.now.standing in
     let room = ltb-false _ _ (not-refused _ _ c.in_ok-need.ensures) in
     record { serials = s.serials; room = omega (arith, room, length-set c.args.image.now 0 c.make_word.result) }
 
 pub write_lines-requires : goal.write_lines-requires
 write_lines-requires c =
-    let s = c.args.standing.now in
+    let s = c.args.source.now.standing in
     let room = ltb-false _ _ (not-refused _ _ c.in_ok-need.ensures) in
     record {
       children = children_below (2 ^ 28) (serials_of s.kinds.now) s.serials s.lines.now s.joins;
@@ -56,11 +56,11 @@ write_lines-requires c =
     }
 
 pub overflow_cast-end : goal.overflow_cast-end
-overflow_cast-end c = let s = c.args.standing.now in omega (arith, (few s).0, c.requires)
+overflow_cast-end c = let s = c.args.source.now.standing in omega (arith, (few s).0, c.args.source.now.few)
 
 pub returns : goal.returns
 returns c =
-    let s = c.args.standing.now in
+    let s = c.args.source.now.standing in
     let old = c.args.image.now in
     let kinds = serials_of s.kinds.now in
     let lines = s.lines.now in
@@ -74,11 +74,11 @@ returns c =
         omega (arith, k.1, length-image kinds lines, length-append (image_body kinds lines) (word_of ImageEnd (length (image_body kinds lines)) ∷ [])),
         image_written kinds lines old c.write_names.new.image c.write_lines.new.image n m c.make_word.result c.make_word-2.result k.1 refl (omega arith)
             (c.make_word.ensures ∙ ap (word_of ImageHead) (low_same n (omega (arith, k.0))))
-            (c.make_word-2.ensures ∙ ap (word_of ImageEnd) (low_same (1 + n + 2 * m) (omega (arith, k.0, c.requires))))
+            (c.make_word-2.ensures ∙ ap (word_of ImageEnd) (low_same (1 + n + 2 * m) (omega (arith, k.0, c.args.source.now.few))))
             c.write_names.ensures
             c.write_lines.ensures
             (omega (arith, c.write_lines.auto.image, c.write_names.auto.image, length-set old 0 c.make_word.result)),
       );
-      back = reads_back s.width kinds lines (lent-held s c.requires);
-      alone = tells_apart s.width kinds lines (lent-held s c.requires);
+      back = reads_back s.width kinds lines (lent-held s c.args.source.now.few);
+      alone = tells_apart s.width kinds lines (lent-held s c.args.source.now.few);
     }

@@ -6,8 +6,8 @@ use Rattle.catalogue.specs.View.{view}
 use Rattle.catalogue.proofs.Shown.{as_shown, standing_held}
 use Rattle.catalogue.proofs.state.Catalogue.write_image.Goals as goal
 
-pub write_image-requires : goal.write_image-requires
-write_image-requires c = omega (arith, ap length c.standing.ensures.lines, (standing_held c.args.self.now).few)
+pub invariant_of-source : goal.invariant_of-source
+invariant_of-source c = omega (arith, ap length c.standing.ensures.lines, (standing_held c.args.self.now).few)
 
 pub returns : goal.returns
 returns c =
