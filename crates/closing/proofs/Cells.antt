@@ -1,9 +1,9 @@
 -- The cells of a table, before and after one row of it is written.
-use Rattle.std.proofs.Common.{◌≡◌, ℕ, ◌+◌, ◌<◌, ◌≤◌, Bool, true, false, ◌&&◌, ◌||◌, eqb, ltb, ◌≢◌, List, length, get_or, set, Ok, Err, Result, sym, refl, ap, ◌∙◌, inl, inr, arith, below_more}
+use Rattle.std.proofs.Common.{◌≡◌, ℕ, ◌+◌, ◌<◌, ◌≤◌, Bool, true, false, ◌&&◌, ◌||◌, eqb, ltb, ◌≢◌, List, length, get_or, set, Ok, Err, Result, sym, refl, ap, ◌∙◌, inl, inr, arith}
 use Rattle.std.proofs.lemmas.List.{get_or-map, map-set, length-map, get_or-set_same, get_or-set_other}
 use Rattle.std.proofs.lemmas.Bool.{lt-ltb, cases_eq, eq-eqb, ne_eqb}
 use Rattle.words.specs.declared.refusal.CodeFault.{CodeFault}
-use Rattle.codes.specs.Sorts.{Sort, Lawful, Agree, Changed}
+use Rattle.codes.specs.Sorts.{Sort, Agree, Changed}
 use Rattle.closing.specs.Tables.{sets_of, cell, Cells}
 
 -- a place below the width is put in

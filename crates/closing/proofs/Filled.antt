@@ -9,7 +9,7 @@ use Rattle.descent.specs.Descent.{descends}
 use Rattle.descent.specs.Rings.{some_round}
 use Rattle.descent.specs.Order.{line_key}
 use Rattle.descent.specs.Closure.{closure}
-use Rattle.descent.proofs.Lines.{stands_position, line_position}
+use Rattle.descent.proofs.Lines.{line_position}
 use Rattle.descent.proofs.Proper.{rising_later}
 use Rattle.descent.proofs.Rows.{stands-below}
 use Rattle.descent.proofs.Closure.{closure_agrees, closure-descends, closure_only_places}

@@ -35,7 +35,8 @@ fn check_lists(
 
 // Fills the table with descents.
 fn fill_descents<C: Code + Drop>(standing: &Standing<'_>, table: &mut [C::Row])
-    requires { (standing.now.width ≤ length table.old) × (standing.now.width ≤ C.Truth.sort.width) }
+    requires enough_rows { standing.now.width ≤ length table.old }
+    requires enough_places { standing.now.width ≤ C.Truth.sort.width }
     ensures filled { Filled standing.now.width (serials_of standing.now.kinds.now) (places_of standing.now.kinds.now) standing.now.lines.now (sets_of C.Truth.sort table.new) }
     ensures beyond { drop standing.now.width table.new ≡ drop standing.now.width table.old }
 {
@@ -51,8 +52,11 @@ fn settle<C: Code + Drop>(
     walk: &mut [usize],
     ring: &mut [u32],
 ) -> bool
-    requires width_in_bounds { (standing.now.width ≤ length table.old) × (standing.now.width ≤ C.Truth.sort.width) }
-    requires width_in_bounds_2 { (standing.now.width ≤ length marks.old) × ((standing.now.width ≤ length walk.old) × (standing.now.width < length ring.old)) }
+    requires enough_rows { standing.now.width ≤ length table.old }
+    requires enough_places { standing.now.width ≤ C.Truth.sort.width }
+    requires enough_marks { standing.now.width ≤ length marks.old }
+    requires enough_steps { standing.now.width ≤ length walk.old }
+    requires enough_words { standing.now.width < length ring.old }
     ensures ringed { result ≡ ringed standing.now.lines.now }
     ensures left { MatchBool result (Ringed C.Truth.sort standing.now.width standing.now.lines.now (lent table.old marks.old walk.old ring.old) (lent table.new marks.new walk.new ring.new)) (Closed C.Truth.sort standing.now.width (serials_of standing.now.kinds.now) (places_of standing.now.kinds.now) standing.now.lines.now (lent table.old marks.old walk.old ring.old) (lent table.new marks.new walk.new ring.new)) }
 {

@@ -1,5 +1,6 @@
 // Closing: the table of descents filled over any sort of code, and the ring that stops it.
 #![tactic(auto)]
+
 mod closing;
 mod fill;
 mod find;

@@ -17,7 +17,9 @@ use stack::Stack;
 
 // A kind that leads up to itself.
 fn ring_line<C: Code + Drop>(standing: &Standing<'_>, table: &[C::Row]) -> Option<u32>
-    requires { (standing.now.width ≤ length table.now) × ((standing.now.width ≤ C.Truth.sort.width) × (Filled standing.now.width (serials_of standing.now.kinds.now) (places_of standing.now.kinds.now) standing.now.lines.now (sets_of C.Truth.sort table.now))) }
+    requires enough_rows { standing.now.width ≤ length table.now }
+    requires enough_places { standing.now.width ≤ C.Truth.sort.width }
+    requires filled { Filled standing.now.width (serials_of standing.now.kinds.now) (places_of standing.now.kinds.now) standing.now.lines.now (sets_of C.Truth.sort table.now) }
     ensures { MatchOption result (ringed standing.now.lines.now ≡ false) (λ k. LeadsUp standing.now.lines.now k k) }
 {
     for line in standing.lines {
@@ -39,7 +41,9 @@ fn parent<C: Code + Drop>(
     top: usize,
     kind: u32,
 ) -> Option<u32>
-    requires { (top < standing.now.width) × ((standing.now.width ≤ length table.now) × (standing.now.width ≤ C.Truth.sort.width)) }
+    requires top_within { top < standing.now.width }
+    requires enough_rows { standing.now.width ≤ length table.now }
+    requires enough_places { standing.now.width ≤ C.Truth.sort.width }
     ensures { MatchOption result ((p : ℕ) → has_line kind p standing.now.lines.now ≡ true → cell (sets_of C.Truth.sort table.now) top (place_of standing.now.kinds.now p) ≡ false) (λ p. (has_line kind p standing.now.lines.now ≡ true) × (cell (sets_of C.Truth.sort table.now) top (place_of standing.now.kinds.now p) ≡ true)) }
 {
     for n in lines_before(standing, kind)..standing.lines.len() {
@@ -62,11 +66,17 @@ fn climb<C: Code + Drop>(
     stack: &mut Stack<'_, usize>,
     top: u32,
 ) -> usize
-    requires width_in_bounds { (standing.now.width ≤ length table.now) × ((standing.now.width ≤ C.Truth.sort.width) × (Filled standing.now.width (serials_of standing.now.kinds.now) (places_of standing.now.kinds.now) standing.now.lines.now (sets_of C.Truth.sort table.now))) }
-    requires leads_up { (LeadsUp standing.now.lines.now top top) × ((marks.old.bytes.now ≡ replicate standing.now.width 0) × ((held stack.old ≡ []) × (room stack.old ≡ standing.now.width))) }
+    requires enough_rows { standing.now.width ≤ length table.now }
+    requires enough_places { standing.now.width ≤ C.Truth.sort.width }
+    requires filled { Filled standing.now.width (serials_of standing.now.kinds.now) (places_of standing.now.kinds.now) standing.now.lines.now (sets_of C.Truth.sort table.now) }
+    requires comes_round { LeadsUp standing.now.lines.now top top }
+    requires unmarked { marks.old.bytes.now ≡ replicate standing.now.width 0 }
+    requires none_held { held stack.old ≡ [] }
+    requires one_slot_each { room stack.old ≡ standing.now.width }
     ensures looped { Looped standing.now.kinds.now standing.now.lines.now (held stack.new) result }
     ensures slots { SameSlots stack.old stack.new }
-    ensures marks { (marks.new.bytes.ghost_name ≡ marks.old.bytes.ghost_name) × (length marks.new.bytes.now ≡ length marks.old.bytes.now) }
+    ensures lender { marks.new.bytes.ghost_name ≡ marks.old.bytes.ghost_name }
+    ensures as_many_marks { length marks.new.bytes.now ≡ length marks.old.bytes.now }
 {
     let peak = place_of(standing, top);
     let mut kind = top;
@@ -92,8 +102,11 @@ pub(crate) fn find_ring<C: Code + Drop>(
     marks: &mut [u8],
     walk: &mut [usize],
 ) -> Option<(usize, usize)>
-    requires width_in_bounds { (standing.now.width ≤ length table.now) × ((standing.now.width ≤ C.Truth.sort.width) × (Filled standing.now.width (serials_of standing.now.kinds.now) (places_of standing.now.kinds.now) standing.now.lines.now (sets_of C.Truth.sort table.now))) }
-    requires marks_len { (length marks.old ≡ standing.now.width) × (length walk.old ≡ standing.now.width) }
+    requires enough_rows { standing.now.width ≤ length table.now }
+    requires enough_places { standing.now.width ≤ C.Truth.sort.width }
+    requires filled { Filled standing.now.width (serials_of standing.now.kinds.now) (places_of standing.now.kinds.now) standing.now.lines.now (sets_of C.Truth.sort table.now) }
+    requires one_mark_each { length marks.old ≡ standing.now.width }
+    requires one_step_each { length walk.old ≡ standing.now.width }
     ensures found { MatchOption result (ringed standing.now.lines.now ≡ false) (λ f. (f.1 ≤ standing.now.width) × ((met : List ℕ) × (take f.1 walk.new ≡ met) × Looped standing.now.kinds.now standing.now.lines.now met f.0)) }
     ensures clear { marks.new ≡ replicate standing.now.width 0 }
 {

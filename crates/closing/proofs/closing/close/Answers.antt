@@ -1,4 +1,4 @@
-use Rattle.std.proofs.Common.{◌≡◌, ◌+◌, ltb, [], ◌∷◌, length, sym, arith}
+use Rattle.std.proofs.Common.{◌+◌, ltb, [], ◌∷◌, length, sym, arith}
 use Rattle.std.proofs.lemmas.Bool.{ltb-false}
 use Rattle.words.specs.declared.refusal.Part.TheVariants as part
 use Rattle.words.specs.Refusals.{refusal, list_refusal}
@@ -25,7 +25,13 @@ settle-requires g c =
     let f = first_none (ltb n (w + 1)) r [] d.1 in
     let p = ltb-false c.places.result w e.0 in
     let x = ltb-false n (w + 1) f.0 in
-    ((ltb-false t w a.0, omega (arith, c.places.ensures)), (ltb-false m w b.0, (ltb-false k w d.0, omega arith)))
+    record {
+      enough_rows = ltb-false t w a.0;
+      enough_places = omega (arith, c.places.ensures);
+      enough_marks = ltb-false m w b.0;
+      enough_steps = ltb-false k w d.0;
+      enough_words = omega arith;
+    }
 
 pub returns : goal.returns
 returns g c =

@@ -1,4 +1,4 @@
-use Rattle.std.proofs.Common.{◌≡◌, ℕ, ◌-◌, ◌<◌, ◌≤◌, ◌++◌, length, get_or, take, drop, sym, refl, ap, ◌∙◌, arith}
+use Rattle.std.proofs.Common.{◌≡◌, ◌-◌, ◌<◌, ◌≤◌, ◌++◌, length, get_or, take, drop, sym, refl, ap, ◌∙◌, arith}
 use borrow.Rule.Slice.PartMut.{post_of}
 use Rattle.descent.specs.Lines.{stands}
 use Rattle.closing.proofs.Settling.{part_long, part_back, part_beyond, part_front, part_middle, loop-ringed, loop-told}
@@ -7,16 +7,20 @@ use Rattle.closing.proofs.closing.settle.Goals as goal
 
 pub find_ring-requires : goal.find_ring-requires
 find_ring-requires g c =
-    let w = c.args.standing.now.width in (
-      (omega arith, (c.requires.0.1, c.fill_descents.ensures.filled)),
-      (part_long c.args.marks.now w c.requires.1.0, part_long c.args.walk.now w c.requires.1.1.0),
-    )
+    let w = c.args.standing.now.width in
+    record {
+      enough_rows = omega arith;
+      enough_places = c.requires.enough_places;
+      filled = c.fill_descents.ensures.filled;
+      one_mark_each = part_long c.args.marks.now w c.requires.enough_marks;
+      one_step_each = part_long c.args.walk.now w c.requires.enough_steps;
+    }
 
 pub position-start-requires : goal.position-start-requires
 position-start-requires g c =
     let w = c.args.standing.now.width in
     let ys = c.find_ring.new.walk in
-    let long = c.find_ring.auto.walk ∙ part_long c.args.walk.now w c.requires.1.1.0 in
+    let long = c.find_ring.auto.walk ∙ part_long c.args.walk.now w c.requires.enough_steps in
     let f = c.in-Some.ensures.found in
     ap (stands c.in-Some.at) (part_front ys (post_of 0 (w - 0) c.args.walk.now) c.in-Some.met (omega (arith, f.0)) ∙ f.1.1)
     ∙ f.1.2.again
@@ -27,7 +31,7 @@ write_ring-requires g c =
     let w = st.width in
     let ys = c.find_ring.new.walk in
     let post = post_of 0 (w - 0) c.args.walk.now in
-    let long = c.find_ring.auto.walk ∙ part_long c.args.walk.now w c.requires.1.1.0 in
+    let long = c.find_ring.auto.walk ∙ part_long c.args.walk.now w c.requires.enough_steps in
     let f = c.in-Some.ensures.found in
     let met = f.1.0 in
     let start = c.position-start.result in
@@ -43,7 +47,7 @@ write_ring-requires g c =
 pub returns-in_default : goal.returns-in_default
 returns-in_default g c =
     let w = c.args.standing.now.width in
-    let long = c.find_ring.auto.walk ∙ part_long c.args.walk.now w c.requires.1.1.0 in
+    let long = c.find_ring.auto.walk ∙ part_long c.args.walk.now w c.requires.enough_steps in
     let e = c.in_default.ensures in
     record {
       ringed = sym e.found;
@@ -64,7 +68,7 @@ returns g c =
     let w = st.width in
     let ys = c.find_ring.new.walk in
     let post = post_of 0 (w - 0) c.args.walk.now in
-    let long = c.find_ring.auto.walk ∙ part_long c.args.walk.now w c.requires.1.1.0 in
+    let long = c.find_ring.auto.walk ∙ part_long c.args.walk.now w c.requires.enough_steps in
     let f = c.in-Some.ensures.found in
     let met = f.1.0 in
     let start = c.position-start.result in

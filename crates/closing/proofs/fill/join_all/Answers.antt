@@ -1,6 +1,4 @@
-use Rattle.std.proofs.Common.{◌≡◌, sym, ap, ◌∙◌, add-one, arith}
-use Rattle.descent.specs.Closure.{closure}
-use Rattle.closing.specs.Tables.{sets_of, cell}
+use Rattle.std.proofs.Common.{◌∙◌, add-one, arith}
 use Rattle.closing.proofs.fill.join_all.Goals as goal
 
 pub loop-k-preserved : goal.loop-k-preserved

@@ -1,6 +1,5 @@
-use Rattle.std.proofs.Common.{◌≡◌, ◌<◌, true, ◌&&◌, ◌||◌, eqb, length, get_or, take, sym, ap, ◌∙◌, arith}
+use Rattle.std.proofs.Common.{◌&&◌, ◌||◌, eqb, get_or, take, sym, ap, ◌∙◌, arith}
 use Rattle.std.proofs.lemmas.List.{take_all}
-use Rattle.descent.specs.declared.line.Line.{Line}
 use Rattle.closing.specs.Tables.{sets_of, cell}
 use Rattle.closing.specs.Direct.{place_of, linked}
 use Rattle.closing.proofs.Direct.{linked_more, or_assoc, line_ends, place-below}

@@ -18,7 +18,7 @@ pushed (Ok _) P Q h out = h
 pushed (Err _) P Q h out = absurd (out h)
 
 pub place_of-peak-requires : goal.place_of-peak-requires
-place_of-peak-requires g c = leader_stands c.args.standing.now c.args.top c.args.top c.requires.1.0
+place_of-peak-requires g c = leader_stands c.args.standing.now c.args.top c.args.top c.requires.comes_round
 
 pub place_of-place-requires : goal.place_of-place-requires
 place_of-place-requires g c = c.loop-next.invariant.0.2.standing
@@ -33,8 +33,8 @@ set-requires g c =
 pub parent-requires : goal.parent-requires
 parent-requires g c =
     let st = c.args.standing.now in
-    let low = place-below st c.args.top (leader_stands st c.args.top c.args.top c.requires.1.0) in
-    (omega (arith, c.place_of-peak.ensures), (c.requires.0.0, c.requires.0.1.0))
+    let low = place-below st c.args.top (leader_stands st c.args.top c.args.top c.requires.comes_round) in
+    record { top_within = omega (arith, c.place_of-peak.ensures); enough_rows = c.requires.enough_rows; enough_places = c.requires.enough_places }
 
 pub unreachable-requires : goal.unreachable-requires
 unreachable-requires g c =
@@ -44,10 +44,10 @@ unreachable-requires g c =
     let first = leads_first c.loop-next.invariant.0.2.leads in
     let next = first.0 in
     let there = (joining-line (serials_of st.kinds.now) ls st.joins c.loop-next.kind next first.1).1 in
-    let top = leader_stands st c.args.top c.args.top c.requires.1.0 in
+    let top = leader_stands st c.args.top c.args.top c.requires.comes_round in
     let out = c.in_default.ensures next first.1 in
     both_ways (cell rows c.place_of-peak.result (place_of st.kinds.now next)) out
-    (rw c.place_of-peak.ensures (filled_at st rows c.requires.0.1.1 c.args.top next top there ∙ (descends_decided ls next c.args.top).1 first.2))
+    (rw c.place_of-peak.ensures (filled_at st rows c.requires.filled c.args.top next top there ∙ (descends_decided ls next c.args.top).1 first.2))
 
 pub place_of-above-requires : goal.place_of-above-requires
 place_of-above-requires g c =
@@ -66,7 +66,7 @@ is_set-requires g c =
 
 pub loop-next-init : goal.loop-next-init
 loop-next-init g c =
-    let q = setting_out c.args.standing.now c.args.top c.args.marks.now.bytes.now (held c.args.stack.now) c.requires.1.0 c.requires.1.1.0 c.requires.1.1.1.0 in
+    let q = setting_out c.args.standing.now c.args.top c.args.marks.now.bytes.now (held c.args.stack.now) c.requires.comes_round c.requires.unmarked c.requires.none_held in
     (([], q.0, q.1), (refl, refl), refl)
 
 pub loop-next-preserved : goal.loop-next-preserved
@@ -79,7 +79,7 @@ loop-next-preserved g c =
     let room-here = (room_left st c.args.top bytes met i.0 l.kind i.1 i.2).0 in
     let slots = l.invariant.1.1 in
     let made = pushed c.push.result (held c.push.new.self ≡ met ++ c.place_of-place.result ∷ [])
-    ((length met ≡ room l.stack) × (c.push.new.self ≡ l.stack)) c.push.ensures.cases (λ full. omega (arith, full.0, c.requires.1.1.1.1)) in
+    ((length met ≡ room l.stack) × (c.push.new.self ≡ l.stack)) c.push.ensures.cases (λ full. omega (arith, full.0, c.requires.one_slot_each)) in
     let turn = visited st c.args.top bytes met i.0 l.kind c.place_of-place.result c.set.new.self.bytes.now (held c.push.new.self)
     i.1 i.2 c.place_of-place.ensures c.set.ensures.after made in
     let ls = st.lines.now in
@@ -87,9 +87,9 @@ loop-next-preserved g c =
     let next = c.in-Some.next in
     let up = c.in-Some.ensures in
     let there = (joining-line (serials_of st.kinds.now) ls st.joins l.kind next up.0).1 in
-    let top = leader_stands st c.args.top c.args.top c.requires.1.0 in
+    let top = leader_stands st c.args.top c.args.top c.requires.comes_round in
     let d = (descends_decided ls next c.args.top).0
-    (sym (filled_at st rows c.requires.0.1.1 c.args.top next top there) ∙ (rw c.place_of-peak.ensures at up.1)) in
+    (sym (filled_at st rows c.requires.filled c.args.top next top there) ∙ (rw c.place_of-peak.ensures at up.1)) in
     let unmarked : get_or c.set.new.self.bytes.now (place_of st.kinds.now next) 0 ≡ 0 =
     rw c.place_of-above.ensures at
     (eqb-true (get_or c.set.new.self.bytes.now c.place_of-above.result 0) 0
@@ -109,7 +109,7 @@ loop-next-smaller g c =
     let room-here = (room_left st c.args.top bytes met i.0 l.kind i.1 i.2).0 in
     let slots = l.invariant.1.1 in
     let made = pushed c.push.result (held c.push.new.self ≡ met ++ c.place_of-place.result ∷ [])
-    ((length met ≡ room l.stack) × (c.push.new.self ≡ l.stack)) c.push.ensures.cases (λ full. omega (arith, full.0, c.requires.1.1.1.1)) in
+    ((length met ≡ room l.stack) × (c.push.new.self ≡ l.stack)) c.push.ensures.cases (λ full. omega (arith, full.0, c.requires.one_slot_each)) in
     let turn = visited st c.args.top bytes met i.0 l.kind c.place_of-place.result c.set.new.self.bytes.now (held c.push.new.self)
     i.1 i.2 c.place_of-place.ensures c.set.ensures.after made in
     omega (arith, turn.2)
@@ -124,7 +124,7 @@ returns-then-is_set g c =
     let room-here = (room_left st c.args.top bytes met i.0 l.kind i.1 i.2).0 in
     let slots = l.invariant.1.1 in
     let made = pushed c.push.result (held c.push.new.self ≡ met ++ c.place_of-place.result ∷ [])
-    ((length met ≡ room l.stack) × (c.push.new.self ≡ l.stack)) c.push.ensures.cases (λ full. omega (arith, full.0, c.requires.1.1.1.1)) in
+    ((length met ≡ room l.stack) × (c.push.new.self ≡ l.stack)) c.push.ensures.cases (λ full. omega (arith, full.0, c.requires.one_slot_each)) in
     let turn = visited st c.args.top bytes met i.0 l.kind c.place_of-place.result c.set.new.self.bytes.now (held c.push.new.self)
     i.1 i.2 c.place_of-place.ensures c.set.ensures.after made in
     let next = c.in-Some.next in
@@ -134,9 +134,10 @@ returns-then-is_set g c =
     eqb-false (get_or c.set.new.self.bytes.now c.place_of-above.result 0) 0
     (not-true (eqb (get_or c.set.new.self.bytes.now c.place_of-above.result 0) 0) (sym c.is_set.ensures ∙ c.if-is_set.true))
     (rw c.place_of-above.ensures e) in
-    let start = setting_out st c.args.top c.args.marks.now.bytes.now (held c.args.stack.now) c.requires.1.0 c.requires.1.1.0 c.requires.1.1.1.0 in
+    let start = setting_out st c.args.top c.args.marks.now.bytes.now (held c.args.stack.now) c.requires.comes_round c.requires.unmarked c.requires.none_held in
     record {
       looped = rw c.place_of-above.ensures (closes st c.set.new.self.bytes.now (held c.push.new.self) i.0 l.kind next turn.0 up.0 there);
       slots = (c.push.ensures.slots.0 ∙ l.invariant.1.0, c.push.ensures.slots.1 ∙ l.invariant.1.1);
-      marks = (c.set.ensures.lender ∙ l.invariant.2, turn.0.long ∙ sym start.0.long);
+      lender = c.set.ensures.lender ∙ l.invariant.2;
+      as_many_marks = turn.0.long ∙ sym start.0.long;
     }

@@ -1,5 +1,5 @@
 use Rattle.std.proofs.Common.{◌≡◌, ℕ, List}
-use Rattle.stack.specs.Held.{held, room, SameSlots}
+use Rattle.stack.specs.Held.{held, SameSlots}
 use Rattle.closing.proofs.Trails.{Trail, Ahead, zeros}
 use Rattle.closing.proofs.ring.climb.Given as goal
 

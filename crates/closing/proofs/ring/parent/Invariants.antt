@@ -1,4 +1,4 @@
-use Rattle.std.proofs.Common.{◌≡◌, ℕ, ◌<◌, false, get_or}
+use Rattle.std.proofs.Common.{◌≡◌, ℕ, ◌<◌, false}
 use Rattle.closing.specs.Tables.{sets_of, cell}
 use Rattle.closing.specs.Direct.{place_of}
 use Rattle.closing.proofs.Direct.{line_at}

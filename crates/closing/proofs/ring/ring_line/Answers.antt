@@ -28,7 +28,7 @@ returns-then-has g c =
     let ls = st.lines.now in
     let n = c.loop-line.line-index in
     let l = line_at ls n in
-    let d = line_tells st (sets_of g.C.Truth.sort c.args.table.now) c.requires.1.1 n c.place_of.result c.place_of-in-loop-line.result true
+    let d = line_tells st (sets_of g.C.Truth.sort c.args.table.now) c.requires.filled n c.place_of.result c.place_of-in-loop-line.result true
     c.loop-line-test.true c.place_of.ensures c.place_of-in-loop-line.ensures (sym c.has.ensures ∙ c.if-has.true) in
     leads_from (line_stands_at ls n (record { child = 0; parent = 0 }) c.loop-line-test.true)
     ((descends_decided ls l.parent l.child).0 d)
@@ -39,7 +39,7 @@ loop-line-preserved g c =
     let ls = st.lines.now in
     let n = c.loop-line.line-index in
     below_more (λ m. descends ls (line_at ls m).parent (line_at ls m).child ≡ false) n c.loop-line.invariant
-    (line_tells st (sets_of g.C.Truth.sort c.args.table.now) c.requires.1.1 n c.place_of.result c.place_of-in-loop-line.result false
+    (line_tells st (sets_of g.C.Truth.sort c.args.table.now) c.requires.filled n c.place_of.result c.place_of-in-loop-line.result false
     c.loop-line-test.true c.place_of.ensures c.place_of-in-loop-line.ensures (sym c.has.ensures ∙ c.if-has.false))
 
 pub returns : goal.returns

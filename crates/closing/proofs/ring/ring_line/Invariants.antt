@@ -1,4 +1,4 @@
-use Rattle.std.proofs.Common.{◌≡◌, ℕ, ◌<◌, false, get_or}
+use Rattle.std.proofs.Common.{◌≡◌, ℕ, ◌<◌, false}
 use Rattle.descent.specs.Descent.{descends}
 use Rattle.closing.proofs.Direct.{line_at}
 use Rattle.closing.proofs.ring.ring_line.Given as goal

@@ -1,4 +1,4 @@
-use Rattle.std.proofs.Common.{◌≡◌, ◌||◌, eqb, sym, ap, ◌∙◌, arith}
+use Rattle.std.proofs.Common.{◌||◌, eqb, sym, ap, ◌∙◌}
 use Rattle.std.proofs.lemmas.List.{drop-set-lt}
 use Rattle.closing.proofs.Cells.{cell_read, changed_within, put_cells}
 use Rattle.closing.proofs.rows.put.Goals as goal
