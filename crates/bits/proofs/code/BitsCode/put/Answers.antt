@@ -7,7 +7,7 @@ pub invariant_of-self : goal.invariant_of-self
 invariant_of-self c =
     let self = c.args.self.now in
     let both = or_lt 64 (get_or self.words (c.args.place / 64) 0) _ (self.fits (c.args.place / 64)) (mod_below _ (2 ^ 64) (omega arith)) in
-    (simp length-set self.whole, (fit_set self.words (c.args.place / 64) _ (omega arith) both self.fits, tt))
+    record { whole = simp length-set self.whole; fits = fit_set self.words (c.args.place / 64) _ (omega arith) both self.fits }
 
 pub returns : goal.returns
 returns c = (omega arith, λ p _. put_place c.args.self.now.words c.args.place (omega arith) p)

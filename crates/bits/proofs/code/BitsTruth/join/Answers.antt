@@ -13,7 +13,7 @@ loop-i-preserved c =
 
 pub invariant_of-self : goal.invariant_of-self
 invariant_of-self c =
-    (simp length-set c.loop-i.self.whole, (fit_set c.loop-i.self.words c.loop-i.i _ (omega arith) (search (rules, or_lt)) c.loop-i.self.fits, tt))
+    record { whole = simp length-set c.loop-i.self.whole; fits = fit_set c.loop-i.self.words c.loop-i.i _ (omega arith) (search (rules, or_lt)) c.loop-i.self.fits }
 
 pub returns : goal.returns
 returns c =

@@ -7,16 +7,14 @@ use Rattle.bits.proofs.code.BitsTruth.read.Goals as goal
 
 pub invariant_of-result : goal.invariant_of-result
 invariant_of-result c =
-    let l = c.loop-i in (
-      l.invariant.0,
-      (
-        λ k. ⊎_elim
-            (λ (h : k < 8). let fit = l.invariant.2 k (omega arith) in let same = l.invariant.1 k (omega arith) in omega arith)
-            (λ (h : 8 ≤ k). let none = get_or_past l.words k 0 (omega (arith, l.invariant.0)) in omega arith)
-            (cases_lt k 8),
-        tt,
-      ),
-    )
+    let l = c.loop-i in
+    record {
+      whole = l.invariant.0;
+      fits = λ k. ⊎_elim
+          (λ (h : k < 8). let fit = l.invariant.2 k (omega arith) in let same = l.invariant.1 k (omega arith) in omega arith)
+          (λ (h : 8 ≤ k). let none = get_or_past l.words k 0 (omega (arith, l.invariant.0)) in omega arith)
+          (cases_lt k 8);
+    }
 
 pub returns : goal.returns
 returns c =

@@ -29,4 +29,4 @@ invariant_of-held c =
     let row = c.args.row in
     let few = and_parts (leb row.len 512) (keeps_rule 512 (take row.len row.bounds) && zeros (drop row.len row.bounds)) (sym c.if-not-keeps_rule.ensures) in
     let clear = and_parts (keeps_rule 512 (take row.len row.bounds)) (zeros (drop row.len row.bounds)) few.1 in
-    (omega arith, (leb-true row.len 512 few.0, (zeros_told row.bounds row.len clear.1, tt)))
+    record { whole = omega arith; few = leb-true row.len 512 few.0; clear = zeros_told row.bounds row.len clear.1 }

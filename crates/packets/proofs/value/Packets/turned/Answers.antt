@@ -4,11 +4,10 @@ use Rattle.packets.proofs.RunLaws.{turn_parts, turn_room_at, turn-rule-at, turn-
 use Rattle.packets.proofs.value.Packets.turned.Goals as goal
 
 pub invariant_of-result : goal.invariant_of-result
-invariant_of-result c = (
-  turn-rule-at c.args.self c.below-from.ensures c.below-to.ensures (held c.push_if-2.new.self)
-      c.empty-row.ensures.items c.push_if.ensures.items c.copy.ensures.items c.push_if-2.ensures.items,
-  tt,
-)
+invariant_of-result c = record {
+  rule = turn-rule-at c.args.self c.below-from.ensures c.below-to.ensures (held c.push_if-2.new.self)
+      c.empty-row.ensures.items c.push_if.ensures.items c.copy.ensures.items c.push_if-2.ensures.items;
+}
 
 pub returns : goal.returns
 returns c =

@@ -5,11 +5,10 @@ use Rattle.packets.proofs.RunLaws.{below_few, run_room, run-rule, run_inside}
 use Rattle.packets.proofs.value.Packets.with_run.Goals as goal
 
 pub invariant_of-result : goal.invariant_of-result
-invariant_of-result c = (
-  run-rule c.args.self c.args.value c.if-start-stop.false (omega arith) c.below-before.ensures c.below-through.ensures (held c.copy-2.new.self)
-      c.empty-row.ensures.items c.copy.ensures.items c.push_if.ensures.items c.push_if-2.ensures.items c.copy-2.ensures.items,
-  tt,
-)
+invariant_of-result c = record {
+  rule = run-rule c.args.self c.args.value c.if-start-stop.false (omega arith) c.below-before.ensures c.below-through.ensures (held c.copy-2.new.self)
+      c.empty-row.ensures.items c.copy.ensures.items c.push_if.ensures.items c.push_if-2.ensures.items c.copy-2.ensures.items;
+}
 
 pub returns : goal.returns
 returns c =
