@@ -1,5 +1,6 @@
 // The fields of the line protocol: what a line's fields are, and numbers and words as fields.
 #![tactic(auto)]
+
 mod decimal;
 mod fields;
 mod lists;
