@@ -25,8 +25,8 @@ returns-in-Here c =
     stays catalogue_told (enter_line c.args.child c.args.parent) (view s) _
     (passes _ _ _ ok (stops _ _ _ (refuses _ _ (line_here (view s).book.kinds s.serials x key.2 (vec_items s.lines) _ s.joins look))))
 
-pub returns-then-len-ge-MAX-LINES : goal.returns-then-len-ge-MAX-LINES
-returns-then-len-ge-MAX-LINES c =
+pub returns-then-len-ge-MAX_LINES : goal.returns-then-len-ge-MAX_LINES
+returns-then-len-ge-MAX_LINES c =
     let s = c.args.self.now in
     let x : Line = record { child = c.args.child; parent = c.args.parent } in
     let ok = c.in_ok-check_ends.ensures in
@@ -35,7 +35,7 @@ returns-then-len-ge-MAX-LINES c =
     stays catalogue_told (enter_line c.args.child c.args.parent) (view s) _
     (passes _ _ _ ok
     (passes _ _ _ (unrefused _ _ (gap-gone (view s).book.kinds s.serials x key.2 (vec_items s.lines) _ look))
-    (stops _ _ _ (refuses _ _ (le-leb 2048 (length (vec_items s.lines)) (omega (arith, s.lines.ok.0, c.len.ensures, c.if-len-ge-MAX-LINES.true)))))))
+    (stops _ _ _ (refuses _ _ (le-leb 2048 (length (vec_items s.lines)) (omega (arith, s.lines.ok.0, c.len.ensures, c.if-len-ge-MAX_LINES.true)))))))
 
 pub insert-requires : goal.insert-requires
 insert-requires c =
@@ -52,7 +52,7 @@ invariant_of-self c =
     let key = ends_passed (view s).book c.args.child c.args.parent ok in
     let look = look_line (vec_items s.lines) _ x _ (Gap c.in-Gap.at) c.deref.ensures.value c.key.ensures s.ordered c.in-Gap.ensures.located in
     let e = c.in-Ok.ensures in
-    let free : vec_len s.lines < 2048 = omega (arith, c.len.ensures, c.if-len-ge-MAX-LINES.false) in
+    let free : vec_len s.lines < 2048 = omega (arith, c.len.ensures, c.if-len-ge-MAX_LINES.false) in
     record {
       wide = s.wide;
       room = (s.room.0, s.room.1, omega (arith, e.capacity, s.room.2));
@@ -75,5 +75,5 @@ returns c =
     goes catalogue_told (enter_line c.args.child c.args.parent) (view s) _ _
     (passes _ _ _ ok
     (passes _ _ _ (unrefused _ _ (gap-gone (view s).book.kinds s.serials x key.2 (vec_items s.lines) _ look))
-    (passes _ _ _ (unrefused _ _ (lt-leb 2048 (length (vec_items s.lines)) (omega (arith, s.lines.ok.0, c.len.ensures, c.if-len-ge-MAX-LINES.false)))) refl)))
+    (passes _ _ _ (unrefused _ _ (lt-leb 2048 (length (vec_items s.lines)) (omega (arith, s.lines.ok.0, c.len.ensures, c.if-len-ge-MAX_LINES.false)))) refl)))
     (ap (opened (view s).book (view s).book.kinds) (c.in-Ok.ensures.items ∙ gap_filed line_key (vec_items s.lines) x c.in-Gap.at look))
