@@ -1,5 +1,6 @@
 // Codes in bits: one bit a place.
 #![tactic(auto)]
+
 mod code;
 mod value;
 

@@ -1,5 +1,6 @@
 // Values that mean sets of places, whatever they are made of. Knows nothing of kinds.
 #![tactic(auto)]
+
 mod truth;
 mod yes_no;
 

@@ -1,5 +1,6 @@
 // A table of cases for every sort of code. A set of places is shown as its runs, <first, first after>.
 #![tactic(auto)]
+
 use bits::Bits;
 use codes::{Code, Truth};
 use packets::{PacketRow, Packets};

@@ -1,5 +1,6 @@
 // Packet codes: unbroken runs of places, from the left.
 #![tactic(auto)]
+
 mod bounds;
 mod code;
 mod fill;

@@ -1,4 +1,4 @@
-use Rattle.std.proofs.Common.{◌-◌, arith}
+use Rattle.std.proofs.Common.{arith}
 use Rattle.bits.proofs.WordRows.{take-place}
 use Rattle.bits.proofs.code.BitsCode.take.Goals as goal
 
