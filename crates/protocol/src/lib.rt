@@ -1,5 +1,6 @@
 // The answer lines of the line protocol, and where a kept answer ends in a file of them.
 #![tactic(auto)]
+
 mod answers;
 mod kits;
 mod pieces;
