@@ -19,9 +19,9 @@ abbrev pub ok_verdict : Bool → List ℕ
 ok_verdict true = codes "ok yes" ++ line_break
 ok_verdict false = codes "ok no" ++ line_break
 
--- ok ALL SOME
-abbrev pub ok_counts : ℕ → ℕ → List ℕ
-ok_counts all some = codes "ok " ++ decimal all ++ codes " " ++ decimal some ++ line_break
+-- ok KITS CHANGED
+abbrev pub ok_kits : ℕ → ℕ → List ℕ
+ok_kits kits changed = codes "ok " ++ decimal kits ++ codes " " ++ decimal changed ++ line_break
 
 abbrev pub part_name : Part → List ℕ
 part_name part.Lists = codes "lists"

@@ -2,7 +2,7 @@
 ghost use Rattle.std.specs.Prelude.{◌≡◌, ◌++◌};
 ghost use Rattle.terminal.specs.Numbers.{Appends};
 ghost use Rattle.terminal.specs.Lists.{spaced};
-ghost use Rattle.protocol.specs.Answers.{line_break, ok_line, ok_words, ok_verdict, ok_counts, part_name, refusal, refused_line, ring_line};
+ghost use Rattle.protocol.specs.Answers.{line_break, ok_line, ok_words, ok_verdict, ok_kits, part_name, refusal, refused_line, ring_line};
 
 use super::pieces::{Piece, write_pieces};
 use std::alloc::AllocError;
@@ -34,17 +34,16 @@ pub fn write_verdict(out: &mut Vec<u8>, fits: bool) -> Result<(), AllocError>
     }
 }
 
-// Two counts: of all kits or calls, and of those among them that have to be told.
-pub fn write_ok_counts(out: &mut Vec<u8>, all: usize, some: usize) -> Result<(), AllocError>
-    ensures { Appends result out.old.items (ok_counts all some) out.new.items }
+pub fn write_ok_kits(out: &mut Vec<u8>, kits: usize, changed: usize) -> Result<(), AllocError>
+    ensures { Appends result out.old.items (ok_kits kits changed) out.new.items }
 {
     write_pieces(
         out,
         &[
             Piece::Text(b"ok "),
-            Piece::Number(all as u64),
+            Piece::Number(kits as u64),
             Piece::Text(b" "),
-            Piece::Number(some as u64),
+            Piece::Number(changed as u64),
             Piece::Text(b"\n"),
         ],
     )

@@ -6,6 +6,6 @@ mod kits;
 mod pieces;
 
 pub use answers::{
-    write_ok, write_ok_counts, write_ok_words, write_refusal, write_ring, write_verdict,
+    write_ok, write_ok_kits, write_ok_words, write_refusal, write_ring, write_verdict,
 };
 pub use kits::kit_length;
