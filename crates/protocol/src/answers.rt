@@ -1,8 +1,9 @@
 // The answer lines of the protocol: what comes back for a call. Without memory for the whole line, nothing is written.
 ghost use Rattle.std.specs.Prelude.{◌≡◌, ◌++◌};
+ghost use Rattle.std.specs.List.{flat_map};
 ghost use Rattle.terminal.specs.Numbers.{Appends};
-ghost use Rattle.terminal.specs.Lists.{spaced};
-ghost use Rattle.protocol.specs.Answers.{line_break, ok_line, ok_words, ok_verdict, ok_kits, part_name, refusal, refused_line, ring_line};
+ghost use Rattle.protocol.specs.Answers.{ok_line, ok_words, ok_verdict, ok_kits, part_name, refusal, refused_line, ring_line};
+ghost use Rattle.protocol.specs.Pieces.{bytes_of};
 
 use super::pieces::{Piece, write_pieces};
 use std::alloc::AllocError;
@@ -52,24 +53,44 @@ pub fn write_ok_kits(out: &mut Vec<u8>, kits: usize, changed: usize) -> Result<(
 pub fn write_refusal(out: &mut Vec<u8>, told: Refusal) -> Result<(), AllocError>
     ensures { Appends result out.old.items (refused_line told) out.new.items }
 {
-    write_refused(out, told, b"", &[])
+    write_refused_with(out, told, &[Piece::Text(b"\n")])
 }
 
 // A refusal with the ring that it was met for behind it.
 pub fn write_ring(out: &mut Vec<u8>, told: Refusal, ring: &[u32]) -> Result<(), AllocError>
     ensures { Appends result out.old.items (ring_line told ring.now) out.new.items }
 {
-    write_refused(out, told, b" ring", ring)
+    write_refused_with(
+        out,
+        told,
+        &[
+            Piece::Text(b" ring"),
+            Piece::Words(ring),
+            Piece::Text(b"\n"),
+        ],
+    )
 }
 
-// A refusal with a text and words behind it.
-fn write_refused<'a>(
+// A refusal with the rest of its line behind it.
+fn write_refused_with(
     out: &mut Vec<u8>,
     told: Refusal,
-    text: &'a [u8],
-    words: &'a [u32],
+    behind: &[Piece<'_>],
 ) -> Result<(), AllocError>
-    ensures { Appends result out.old.items (refusal told ++ text.now ++ spaced words.now ++ line_break) out.new.items }
+    ensures { Appends result out.old.items (refusal told ++ flat_map bytes_of behind.now) out.new.items }
+{
+    let start = out.len();
+    write_refused(out, told)?;
+    if let Err(fault) = write_pieces(out, behind) {
+        out.truncate(start);
+        return Err(fault);
+    }
+    Ok(())
+}
+
+// A refusal without a line break.
+fn write_refused(out: &mut Vec<u8>, told: Refusal) -> Result<(), AllocError>
+    ensures { Appends result out.old.items (refusal told) out.new.items }
 {
     write_pieces(
         out,
@@ -80,9 +101,6 @@ fn write_refused<'a>(
             Piece::Number(told.index as u64),
             Piece::Text(b" by "),
             Piece::Text(part_name(told.part)),
-            Piece::Text(text),
-            Piece::Words(words),
-            Piece::Text(b"\n"),
         ],
     )
 }
