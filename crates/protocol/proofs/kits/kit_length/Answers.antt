@@ -1,20 +1,9 @@
-use Rattle.std.proofs.Common.{◌≤◌, true, false, length, arith, length-drop, length-take, rules}
-use Rattle.protocol.proofs.Ends.{kit_value}
+use Rattle.std.proofs.Common.{arith}
+use Rattle.protocol.proofs.Ends.{one_kit, next_kit}
 use Rattle.protocol.proofs.kits.kit_length.Goals as goal
 
-pub returns-then-is_kind : goal.returns-then-is_kind
-returns-then-is_kind c =
-    let one : 1 ≤ length c.args.words.now = search rules in
-    let value = kit_value c.args.words.now c.before_head-most.result true one c.before_head-most.ensures.value c.if-is_kind.ensures in
-    let within = simp (length-take, length-drop) at c.before_head-most.ensures.within in
-    record { value = cc; some = λ _. omega arith; within = omega arith }
+pub returns-clause-one : goal.returns-clause-one
+returns-clause-one c = λ k some below. one_kit c.args.words.now c.before_head.result k c.before_head.ensures.value some (omega arith)
 
-pub returns-else-is_kind : goal.returns-else-is_kind
-returns-else-is_kind c =
-    let one : 1 ≤ length c.args.words.now = search rules in
-    let within = simp (length-take, length-drop) at c.before_head-most.ensures.within in
-    record {
-      value = kit_value c.args.words.now c.before_head-most.result false one c.before_head-most.ensures.value c.if-is_kind.ensures;
-      some = λ _. omega arith;
-      within = omega arith;
-    }
+pub returns-clause-stops : goal.returns-clause-stops
+returns-clause-stops c = λ within. let next = next_kit c.args.words.now c.before_head.result c.before_head.ensures.value in grind (arith, next)
