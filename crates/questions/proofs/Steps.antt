@@ -1,5 +1,5 @@
 -- A word is carried out as its kind says.
-use Rattle.std.proofs.Common.{◌≡◌, ℕ, ◌+◌, ◌-◌, Bool, List, [], ◌∷◌, ◌++◌, length, Some, sym, ◌∙◌, subst, arith}
+use Rattle.std.proofs.Common.{◌≡◌, ℕ, ◌+◌, Bool, List, [], ◌∷◌, ◌++◌, length, Some, sym, ◌∙◌, subst, arith}
 use Rattle.words.specs.declared.word.WordKind.{WordKind}
 use Rattle.words.specs.declared.word.WordKind.TheVariants.{Name}
 use Rattle.words.specs.declared.word.LowBits.TheVariants as low

@@ -1,5 +1,5 @@
 -- The row of each kind of word in the table of rules.
-use Rattle.std.proofs.Common.{◌≡◌, ℕ, zero, suc, List, [], ◌∷◌, get_or, Some, None, sym, refl, ap, ◌∙◌}
+use Rattle.std.proofs.Common.{◌≡◌, ℕ, zero, suc, List, [], ◌∷◌, get_or, None, refl, ap, ◌∙◌}
 use Rattle.words.specs.declared.word.WordKind.{WordKind}
 use Rattle.words.specs.declared.word.WordKind.TheVariants.{Unused, Name, And, Or, Not, All, Nothing, AnswerHead, ImageHead, Child, Parent, RingHead, ImageEnd}
 use Rattle.words.specs.declared.word.LowBits.TheVariants as low

@@ -1,5 +1,5 @@
 -- What the value of a question that is not refused hangs on, and that it lies within all.
-use Rattle.std.proofs.Common.{◌≡◌, ℕ, ◌+◌, Bool, true, false, not, ◌&&◌, ◌||◌, ◌⊎◌, List, [], ◌∷◌, get_or, Some, None, Option, sym, refl, ap, ◌∙◌, subst, ⊎_elim, arith}
+use Rattle.std.proofs.Common.{◌≡◌, ℕ, ◌+◌, Bool, true, false, not, ◌&&◌, ◌||◌, List, [], ◌∷◌, get_or, Some, None, Option, refl, ap, ◌∙◌, subst, ⊎_elim, arith}
 use Rattle.std.proofs.lemmas.Bool.{and_parts, or_cases, false≢true}
 use Rattle.std.proofs.lemmas.Bool.Decides.{nat_tests}
 use Rattle.std.specs.List.{AllByRecursion as All}
@@ -10,7 +10,7 @@ use Rattle.words.specs.declared.word.WordKind.TheVariants as kind
 use Rattle.words.specs.declared.word.WordRule.{WordRule}
 use Rattle.words.specs.Refusals.{first_of}
 use Rattle.words.specs.Words.{kind_number, low_bits, rule_of, taking}
-use Rattle.questions.specs.Questions.{applied, applied_word, holds, name_refusal, parts_refusal, word_refusal, words_refusal, question_refusal, depth_after, on_top, on_two}
+use Rattle.questions.specs.Questions.{applied, applied_word, holds, parts_refusal, word_refusal, words_refusal, question_refusal, depth_after, on_top, on_two}
 use Rattle.questions.proofs.Table.{row_by_kind}
 
 -- of two refusals in order neither applies

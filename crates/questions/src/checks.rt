@@ -15,7 +15,7 @@ use words::{LowBits, QuestionFault, StackEffect};
 pub const MAX_ENTRIES: usize = 32;
 
 // The value of a word that names a kind, and none of a word whose low bits are 0, as they have to be.
-pub(super) fn named_row<T: Truth + Drop, N: Names<T>>(
+pub(super) fn named_row<T: Truth, N: Names<T>>(
     names: &N,
     rule: LowBits,
     placed: PlacedWord,

@@ -1,5 +1,6 @@
 // Questions about kinds: reading their words, and evaluating them over any truth sort. Knows nothing of catalogues.
 #![tactic(auto)]
+
 mod checks;
 mod count;
 mod evaluation;

@@ -1,14 +1,13 @@
 // Where the names in a question get their values.
-ghost use Rattle.std.specs.Prelude.{◌≡◌, ℕ, Bool, not, ◌&&◌, IfOk};
+ghost use Rattle.std.specs.Prelude.{◌≡◌, ℕ, Bool, IfOk};
 ghost use Rattle.codes.specs.Sorts.{Sort, Agree};
 ghost use Rattle.words.specs.Refusals.{Says, catalogue_told};
 ghost use Rattle.questions.specs.Questions.{name_refusal};
 
-use super::rows::lacked;
 use codes::Truth;
 use words::CatalogueFault;
 
-pub trait Names<T: Truth + Drop> {
+pub trait Names<T: Truth> {
     // Whether the kind of a serial stands.
     ghost standing: { Self → ℕ → Bool };
 
@@ -25,11 +24,4 @@ pub trait Names<T: Truth + Drop> {
 
     fn all(&self) -> T::Row
         ensures { Agree T.Truth.sort.width (T.Truth.sort.reads result) (whole self.now) };
-
-    // What of all is not in a: the value of a `not`.
-    fn lacking(&self, a: T::Row) -> T::Row
-        ensures { Agree T.Truth.sort.width (T.Truth.sort.reads result) (λ p. whole self.now p && not (T.Truth.sort.reads a p)) }
-    {
-        lacked::<T>(self.all(), a)
-    }
 }

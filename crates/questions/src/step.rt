@@ -11,7 +11,7 @@ ghost use Rattle.questions.specs.Entries.{Turned, Fitting, Stepped};
 use super::checks::{check_effect, named_row};
 use super::lent::PlacedWord;
 use super::names::Names;
-use super::rows::{joined, met, nothing};
+use super::rows::{joined, lacked, met, nothing};
 use codes::Truth;
 use stack::Stack;
 use words::{QuestionFault, WordKind};
@@ -55,12 +55,12 @@ fn join_top<T: Truth + Drop>(stack: &mut Stack<'_, T::Row>)
     put(stack, joined::<T>(a, b));
 }
 
-fn lack_top<T: Truth + Drop, N: Names<T>>(names: &N, stack: &mut Stack<'_, T::Row>)
+fn lack_top<T: Truth + Drop>(stack: &mut Stack<'_, T::Row>, all: T::Row)
     requires { 1 ≤ length (held stack.old) }
-    ensures { Turned T.Truth.sort (λ p. on_top (λ a. N.Names.whole names.now p && not a)) (length (held stack.old)) stack.old stack.new }
+    ensures { Turned T.Truth.sort (λ p. on_top (λ a. T.Truth.sort.reads all p && not a)) (length (held stack.old)) stack.old stack.new }
 {
     let a = taken(stack);
-    put(stack, names.lacking(a));
+    put(stack, lacked::<T>(all, a));
 }
 
 // Carries out a word that names no kind, where the stack is deep enough and has room.
@@ -73,7 +73,7 @@ fn operate<T: Truth + Drop, N: Names<T>>(names: &N, word: u32, stack: &mut Stack
     match words::rule(word).kind {
         WordKind::And => meet_top::<T>(stack),
         WordKind::Or => join_top::<T>(stack),
-        WordKind::Not => lack_top::<T, N>(names, stack),
+        WordKind::Not => lack_top::<T>(stack, names.all()),
         WordKind::All => put(stack, names.all()),
         WordKind::Nothing => put(stack, nothing::<T>()),
         _ => unreachable(),

@@ -8,9 +8,9 @@ put-requires g c = freed c.args.stack.now c.taken-a.new.stack _ c.taken-a.ensure
 
 pub returns : goal.returns
 returns g c =
-    turned_top g.T.Truth.sort (λ p a. g.N.Names.whole c.args.names.now p && not a) c.args.stack.now c.taken-a.new.stack c.put.new.stack _ _
+    turned_top g.T.Truth.sort (λ p a. g.T.Truth.sort.reads c.args.all p && not a) c.args.stack.now c.taken-a.new.stack c.put.new.stack _ _
     c.taken-a.ensures.after
     c.taken-a.ensures.slots
     c.put.ensures.after
     c.put.ensures.slots
-    c.lacking.ensures
+    c.lacked.ensures

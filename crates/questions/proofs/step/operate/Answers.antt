@@ -12,7 +12,7 @@ returns-in-All g c =
     (omega arith)
     c.put.ensures.after
     c.put.ensures.slots
-    c.all.ensures
+    c.all-in-All.ensures
 
 pub returns-in-Nothing : goal.returns-in-Nothing
 returns-in-Nothing g c =
