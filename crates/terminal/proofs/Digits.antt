@@ -1,14 +1,14 @@
 -- Digits that are read one by one, and the digits that are written read back.
-use Rattle.std.proofs.Common.{◌≡◌, ℕ, ◌+◌, ◌-◌, ◌*◌, ◌/◌, ◌%◌, ◌^◌, ◌<◌, ◌≤◌, Bool, true, false, cond, ◌&&◌, eqb, ltb, List, [], ◌∷◌, ◌++◌, map, length, get_or, drop, set, is_ok, Some, None, decimal, Option, Result, sym, refl, ap, ◌∙◌, ⊎_elim, le_refl, arith, rules}
+use Rattle.std.proofs.Common.{◌≡◌, ℕ, ◌+◌, ◌-◌, ◌*◌, ◌/◌, ◌%◌, ◌^◌, ◌<◌, ◌≤◌, Bool, true, false, cond, ◌&&◌, eqb, ltb, List, [], ◌∷◌, ◌++◌, map, length, get_or, drop, set, Some, None, decimal, Option, sym, refl, ap, ◌∙◌, le_refl, arith, rules}
 use Rattle.std.specs.Str.Parse.{digits_value, digits_value_after, AllDigits}
 use Rattle.std.specs.Char.{digit_value}
 use Rattle.std.specs.Int.Digits.{AllBelowBase, number_from_digits as number, number_from_digits_after}
 use Rattle.std.proofs.lemmas.Nat.{mul-le}
 use Rattle.std.proofs.lemmas.Fmt.{decimal_is_IsNumeral, decimal_digit, decimal_step, decimal_nonempty, first_decimal, length-decimal-le}
 use Rattle.std.proofs.lemmas.Int.Digits.{digits_value-lt}
-use Rattle.std.proofs.lemmas.List.{drop_more, drop-set, drop_all, length-drop, length-append, append_assoc}
-use Rattle.std.proofs.lemmas.Bool.{lt-ltb, le-ltb, ltb-true, and_parts, and_right, and_from, eq-eqb, ne_eqb, cases_lt, cond-true, cond-false}
-use Rattle.terminal.specs.Numbers.{all_digits, numeral_in, word_in, hex_digit, hex_digits, WritesDecimal, Appends}
+use Rattle.std.proofs.lemmas.List.{drop_more, drop-set, length-drop, length-append, append_assoc}
+use Rattle.std.proofs.lemmas.Bool.{lt-ltb, le-ltb, ltb-true, and_parts, and_right, and_from, eq-eqb, ne_eqb, cond-true, cond-false}
+use Rattle.terminal.specs.Numbers.{all_digits, numeral_in, word_in, hex_digit, hex_digits, WritesDecimal}
 
 -- the number that digits write behind those that wrote n, where it fits 32 bits
 abbrev pub numeral_after : ℕ → ℕ → List ℕ → Option ℕ
@@ -16,9 +16,6 @@ numeral_after base n ds = cond (all_digits base ds && ltb (digits_value_after ba
 
 pub after_digit : (base n b : ℕ) (bs : List ℕ) → digit_value b < base → numeral_after base n (b ∷ bs) ≡ numeral_after base (n * base + digit_value b) bs
 after_digit base n b bs h = let t : ltb (digit_value b) base ≡ true = lt-ltb _ _ h in rw t
-
-pub after_other : (base n b : ℕ) (bs : List ℕ) → base ≤ digit_value b → numeral_after base n (b ∷ bs) ≡ None
-after_other base n b bs h = let t : ltb (digit_value b) base ≡ false = le-ltb _ _ h in rw t
 
 value_after_ge : (base n : ℕ) (ds : List ℕ) → 0 < base → n ≤ digits_value_after base n ds
 value_after_ge base n [] h = le_refl n
@@ -32,9 +29,6 @@ after_large base n ds h large =
     let u = and_right (all_digits base ds) (ltb (digits_value_after base n ds) 4294967296) t in
     rw u
 
-pub after_none : (base n : ℕ) → n < 2 ^ 32 → numeral_after base n [] ≡ Some n
-after_none base n h = let t : ltb n 4294967296 ≡ true = lt-ltb _ _ h in rw t
-
 pub digits_from_all : (base : ℕ) (ds : List ℕ) → all_digits base ds ≡ true → AllDigits base ds
 digits_from_all base [] e = tt
 digits_from_all base (d ∷ ds) e =
@@ -45,22 +39,13 @@ pub all_from_digits : (base : ℕ) (ds : List ℕ) → AllDigits base ds → all
 all_from_digits base [] e = refl
 all_from_digits base (d ∷ ds) e = let t : ltb (digit_value d) base ≡ true = lt-ltb _ _ e.0 in rw t (all_from_digits base ds e.1)
 
--- one step of reading: a digit, another byte, and a digit that makes the number too large
+-- one step of reading: a digit, and a digit that makes the number too large
 pub numeral_more : (base n : ℕ) (field : List ℕ) (i b : ℕ) → i < length field → b ≡ get_or field i 0 → digit_value b < base → numeral_after base n (drop i field) ≡ numeral_after base (n * base + digit_value b) (drop (i + 1) field)
 numeral_more base n field i b h e d = let more = drop_more field i 0 h in rw (more, ← e) (after_digit base n b (drop (i + 1) field) d)
-
-pub numeral_other : (base n : ℕ) (field : List ℕ) (i b : ℕ) → i < length field → b ≡ get_or field i 0 → (digit_value b < base → ⊥) → numeral_after base n (drop i field) ≡ None
-numeral_other base n field i b h e o =
-    let other : base ≤ digit_value b = ⊎_elim (λ l. absurd (o l)) (λ l. l) (cases_lt (digit_value b) base) in
-    let more = drop_more field i 0 h in
-    rw (more, ← e) (after_other base n b (drop (i + 1) field) other)
 
 pub numeral_large : (base n : ℕ) (field : List ℕ) (i b : ℕ) → i < length field → b ≡ get_or field i 0 → digit_value b < base → 2 ^ 32 ≤ n * base + digit_value b → numeral_after base n (drop i field) ≡ None
 numeral_large base n field i b h e d large =
     numeral_more base n field i b h e d ∙ after_large base (n * base + digit_value b) (drop (i + 1) field) (omega arith) large
-
-pub numeral_all : (base n : ℕ) (field : List ℕ) (i : ℕ) → length field ≤ i → n < 2 ^ 32 → numeral_after base n (drop i field) ≡ Some n
-numeral_all base n field i h fits = let none = drop_all i field h in rw none (after_none base n fits)
 
 cond_first : (t u : Bool) (x : Option ℕ) → (t ≡ true → u ≡ true) → cond (t && u) x None ≡ cond t x None
 cond_first true u x h = let e = h refl in rw e
@@ -144,7 +129,3 @@ digit_more left at ds large fits h within =
 pub digit_last : (left at : ℕ) (ds : List ℕ) → left < 10 → 1 ≤ at → at ≤ length ds → drop (at - 1) (set ds (at - 1) (48 + left)) ≡ decimal left ++ drop at ds
 digit_last left at ds small h within =
     put_before at (48 + left) ds h within ∙ sym (ap (λ b. b ++ drop at ds) (decimal_digit left small))
-
--- what was written is a part of a buffer that holds the digits
-pub appends_part : {T E : Type 0} (r : Result T E) (before part bytes after : List ℕ) → after ≡ cond (is_ok r) (before ++ part) before → part ≡ bytes → Appends r before bytes after
-appends_part r before part bytes after e same = e ∙ ap (λ b. cond (is_ok r) (before ++ b) before) same

@@ -1,11 +1,10 @@
 -- Words that are read one by one, and words that are written behind spaces read back.
-use Rattle.std.proofs.Common.{◌≡◌, ℕ, suc, ◌+◌, ◌^◌, ◌<◌, ◌≤◌, true, false, List, [], ◌∷◌, ◌++◌, map, length, get_or, take, is_some, Some, None, Option, sym, refl, ap, ◌∙◌, append_assoc, append-nil, arith, rules}
+use Rattle.std.proofs.Common.{◌≡◌, ℕ, suc, ◌^◌, ◌<◌, ◌≤◌, false, List, [], ◌∷◌, ◌++◌, map, get_or, Some, None, Option, sym, refl, ap, ◌∙◌, append-nil, arith, rules}
 use Rattle.std.specs.List.{flat_map}
-use Rattle.std.proofs.lemmas.List.{flat_map_more, take_at, take_more}
-use Rattle.std.proofs.lemmas.Bool.{false≢true, or_from, ne_eqb}
+use Rattle.std.proofs.lemmas.Bool.{or_from, ne_eqb}
 use Rattle.terminal.specs.Fields.{is_space, any_space, whole, fields_after}
 use Rattle.terminal.specs.Lists.{before, words_in, spaced, ReadsBack}
-use Rattle.terminal.specs.Numbers.{word_in, hex_digit, hex_digits}
+use Rattle.terminal.specs.Numbers.{hex_digit, hex_digits}
 use Rattle.terminal.proofs.Digits.{nibbles, word_in_hex_digits}
 use Rattle.terminal.proofs.Splits.{run_all}
 
@@ -13,27 +12,6 @@ use Rattle.terminal.proofs.Splits.{run_all}
 abbrev pub behind : List ℕ → Option (List ℕ) → Option (List ℕ)
 behind words (Some more) = Some (words ++ more)
 behind words None = None
-
-pub behind_more : (words : List ℕ) (word : ℕ) (more : Option (List ℕ)) → behind (words ++ word ∷ []) more ≡ behind words (before (Some word) more)
-behind_more words word None = refl
-behind_more words word (Some more) = ap Some (append_assoc words (word ∷ []) more)
-
--- one field more that is a word
-pub words_more : (words after : List ℕ) (word : ℕ) (field : List ℕ) (left fields : List (List ℕ)) → after ≡ words ++ word ∷ [] → Some word ≡ word_in field → fields ≡ field ∷ left → behind after (words_in left) ≡ behind words (words_in fields)
-words_more words after word field left fields pushed is first =
-    ap (λ ws. behind ws (words_in left)) pushed
-    ∙ behind_more words word (words_in left)
-    ∙ ap (λ o. behind words (before o (words_in left))) is
-    ∙ ap (λ fs. behind words (words_in fs)) (sym first)
-
-some_before : (word : Option ℕ) (more : Option (List ℕ)) → is_some word ≡ true → is_some more ≡ is_some (before word more)
-some_before (Some word) (Some more) e = refl
-some_before (Some word) None e = refl
-some_before None more e = absurd (false≢true e)
-
--- behind a field that is a word, all are words where the others are
-pub all_more : (field : List ℕ) (left : List (List ℕ)) → is_some (word_in field) ≡ true → is_some (words_in left) ≡ is_some (words_in (field ∷ left))
-all_more field left e = some_before (word_in field) (words_in left) e
 
 -- a digit is no space
 is_space-hex_digit : (d : ℕ) → is_space (hex_digit d) ≡ false
@@ -65,11 +43,3 @@ reads_back words fits =
           run_all [] name (spaced words) plain ∙ fields_joined hex_digits (λ w. any_space_hex (nibbles w)) (λ w. refl) name words;
       same = words_in_hex_digits words fits;
     }
-
-pub spaced_more : (bytes words : List ℕ) (i : ℕ) → i < length words → (bytes ++ spaced (take i words)) ++ 32 ∷ hex_digits (get_or words i 0) ≡ bytes ++ spaced (take (i + 1) words)
-spaced_more bytes words i h =
-    flat_map_more (λ word. 32 ∷ hex_digits word) bytes (take i words) (get_or words i 0) ∙ ap (λ ws. bytes ++ spaced ws) (sym (take_more words i 0 h))
-
--- what stood before the words, once they are cut off again
-pub cut_off : (n : ℕ) (bytes more full after : List ℕ) → after ≡ take n full → full ≡ bytes ++ more → length bytes ≡ n → after ≡ bytes
-cut_off n bytes more full after cut is len = cut ∙ ap (λ b. take n b) is ∙ take_at bytes more n len

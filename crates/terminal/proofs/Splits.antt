@@ -1,13 +1,9 @@
 -- How the fields of a line go on, byte by byte.
-use Rattle.std.proofs.Common.{◌≡◌, ℕ, ◌+◌, ◌-◌, ◌<◌, ◌≤◌, true, false, ◌⊎◌, List, [], ◌∷◌, ◌++◌, length, get_or, take, drop, sym, refl, ap, ◌∙◌, subst, inl, inr, ⊎_elim, append_assoc, append-nil, add-zero, arith}
+use Rattle.std.proofs.Common.{◌≡◌, ℕ, ◌+◌, ◌<◌, false, List, [], ◌∷◌, ◌++◌, length, get_or, take, drop, sym, refl, ap, ◌∙◌, subst, append_assoc, append-nil, arith}
 use Rattle.std.specs.List.{AllByRecursion as All}
-use Rattle.std.proofs.lemmas.List.{drop_more, take_more, get_or-drop, length-drop, length-take}
+use Rattle.std.proofs.lemmas.List.{drop_more, take_more, get_or-drop, length-drop}
 use Rattle.std.proofs.lemmas.Bool.{or_parts, or_from, cond_both}
 use Rattle.terminal.specs.Fields.{is_space, any_space, whole, fields_after, fields, Plain}
-
--- a space before the first field is no part of it
-pub skip_more : (line : List ℕ) (i : ℕ) → i < length line → is_space (get_or line i 0) ≡ true → fields (drop (i + 1) line) ≡ fields (drop i line)
-skip_more line i h e = let d = drop_more line i 0 h in rw (d, e)
 
 -- a byte that is no space goes to the field that is begun
 pub run_more : (line : List ℕ) (start k i : ℕ) → i ≡ start + k → i < length line → is_space (get_or line i 0) ≡ false → fields_after (take k (drop start line)) (drop i line) ≡ fields_after (take (k + 1) (drop start line)) (drop (i + 1) line)
@@ -17,21 +13,6 @@ run_more line start k i at h e =
     let more = take_more (drop start line) k 0 inside in
     let d = drop_more line i 0 h in
     rw (d, e, more, next)
-
--- a field ends with the line or before a space
-pub run_end : (begun left : List ℕ) → 0 < length begun → (length left ≡ 0) ⊎ (is_space (get_or left 0 0) ≡ true) → fields_after begun left ≡ begun ∷ fields left
-run_end [] left h e = absurd (omega arith)
-run_end (b ∷ bs) [] h e = refl
-run_end (b ∷ bs) (x ∷ left) h (inl e) = absurd (omega arith)
-run_end (b ∷ bs) (x ∷ left) h (inr e) = rw e
-
-pub field_ends : (line : List ℕ) (start end : ℕ) → start < end → end ≤ length line → (length line ≤ end) ⊎ (is_space (get_or line end 0) ≡ true) → fields_after (take (end - start) (drop start line)) (drop end line) ≡ take (end - start) (drop start line) ∷ fields (drop end line)
-field_ends line start end h within e =
-    let some : 0 < length (take (end - start) (drop start line)) = simp (length-take, length-drop) (omega arith) in
-    let stops : (length (drop end line) ≡ 0) ⊎ (is_space (get_or (drop end line) 0 0) ≡ true) =
-    ⊎_elim (λ (l : length line ≤ end). inl (simp length-drop (omega arith))) (λ s. inr (ap is_space (get_or-drop end line 0 0 ∙ ap (λ n. get_or line n 0) (add-zero end)) ∙ s)) e
-    in
-    run_end (take (end - start) (drop start line)) (drop end line) some stops
 
 -- bytes with no space among them go to the field that is begun
 pub run_all : (begun run left : List ℕ) → any_space run ≡ false → fields_after begun (run ++ left) ≡ fields_after (begun ++ run) left

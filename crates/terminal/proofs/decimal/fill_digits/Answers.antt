@@ -1,11 +1,7 @@
-use Rattle.std.proofs.Common.{◌≡◌, ◌+◌, ◌-◌, ◌/◌, ◌%◌, ◌≤◌, ◌++◌, length, drop, set, decimal, ap, ◌∙◌, append-nil, arith}
-use Rattle.std.proofs.lemmas.List.{drop_all, length-set}
+use Rattle.std.proofs.Common.{◌≡◌, ◌+◌, ◌-◌, ◌/◌, ◌%◌, ◌≤◌, ◌++◌, length, drop, set, decimal, ◌∙◌, arith}
+use Rattle.std.proofs.lemmas.List.{length-set}
 use Rattle.terminal.proofs.Digits.{room, digit_more, digit_last}
 use Rattle.terminal.proofs.decimal.fill_digits.Goals as goal
-
-pub loop-left-init : goal.loop-left-init
-loop-left-init c =
-    (omega arith, omega arith, omega arith, ap (λ b. decimal c.args.number ++ b) (drop_all 20 c.args.digits.now (omega arith)) ∙ append-nil _)
 
 pub loop-left-preserved : goal.loop-left-preserved
 loop-left-preserved c =
@@ -20,9 +16,6 @@ loop-left-preserved c =
     let len : length digits ≡ 20 = simp length-set (omega arith) in
     (room c.args.number left at digits (omega arith) less len within stand, within, less, stand)
 
-pub returns : goal.returns
-returns c =
-    record {
-      within = omega arith;
-      digits = digit_last c.loop-left.left c.loop-left.at c.loop-left.digits c.loop-left-test.false c.loop-left.invariant.0 (omega arith) ∙ c.loop-left.invariant.3;
-    }
+pub returns-clause-digits : goal.returns-clause-digits
+returns-clause-digits c =
+    digit_last c.loop-left.left c.loop-left.at c.loop-left.digits c.loop-left-test.false c.loop-left.invariant.0 (omega arith) ∙ c.loop-left.invariant.3

@@ -1,6 +1,6 @@
-use Rattle.std.proofs.Common.{arith, rules}
+use Rattle.std.proofs.Common.{arith}
 use Rattle.terminal.proofs.Digits.{word_in_hex_digits}
 use Rattle.terminal.proofs.word.write_word.Goals as goal
 
-pub returns : goal.returns
-returns c = record { after = search rules; back = word_in_hex_digits c.args.word (omega arith) }
+pub returns-clause-back : goal.returns-clause-back
+returns-clause-back c = word_in_hex_digits c.args.word (omega arith)
