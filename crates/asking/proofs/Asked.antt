@@ -1,5 +1,5 @@
 -- What an evaluated question leaves, where the table belongs to the catalogue.
-use Rattle.std.proofs.Common.{◌≡◌, ℕ, suc, ◌+◌, ◌<◌, ◌≤◌, Bool, true, ◌&&◌, ltb, List, [], ◌∷◌, ◌++◌, map, length, get_or, drop, sym, refl, ap, ◌∙◌, subst, ap₂, arith}
+use Rattle.std.proofs.Common.{◌≡◌, ℕ, ◌+◌, ◌≤◌, Bool, true, ◌&&◌, ltb, List, [], ◌∷◌, ◌++◌, map, length, get_or, drop, refl, ap, ◌∙◌, subst, ap₂, arith}
 use Rattle.std.proofs.lemmas.List.{length-map, drop_at}
 use Rattle.std.proofs.lemmas.Bool.{lt-ltb}
 use Rattle.descent.specs.declared.kind.Kind.{Kind}
@@ -15,7 +15,7 @@ use Rattle.catalogue.specs.declared.state.Catalogue.{Catalogue}
 use Rattle.formats.specs.Formats.{answer_of}
 use Rattle.catalogue.specs.Ledger.{set_of, answering}
 use Rattle.catalogue.specs.Table.{Belongs, table_of}
-use Rattle.catalogue.specs.View.{View, view}
+use Rattle.catalogue.specs.View.{view}
 use Rattle.asking.specs.Asking.{AsPlaces}
 use Rattle.asking.specs.Decoding.{decoded}
 use Rattle.asking.specs.Naming.{seat, row_places, fits_name}

@@ -1,14 +1,14 @@
 -- What is uppermost by places is uppermost by lines.
-use Rattle.std.proofs.Common.{◌≡◌, ℕ, zero, suc, ◌<◌, ◌≤◌, Bool, true, false, cond, not, ◌&&◌, ◌||◌, eqb, ltb, List, [], ◌∷◌, map, length, get_or, Decides, filter, sym, refl, ap, ◌∙◌, subst, ap₂, inl, inr, arith}
+use Rattle.std.proofs.Common.{◌≡◌, ℕ, suc, ◌<◌, Bool, true, false, cond, not, ◌&&◌, ◌||◌, eqb, List, [], ◌∷◌, map, length, get_or, Decides, filter, sym, refl, ap, ◌∙◌, ap₂, inl, inr, arith}
 use Rattle.std.specs.List.{AllByRecursion as All}
 use Rattle.std.proofs.ByRecursion.{All-from_get_or}
 use Rattle.std.proofs.lemmas.List.{get_or-map, length-map}
-use Rattle.std.proofs.lemmas.Bool.{both_ways, cases_Bool, cases_eq, eq-eqb, ne_eqb, lt-ltb, not-false, not_from_true}
+use Rattle.std.proofs.lemmas.Bool.{both_ways, cases_Bool, cases_eq, eq-eqb, ne_eqb, lt-ltb, not-false}
 use Rattle.std.proofs.lemmas.Bool.Decides.{same_from_decides, Decides-like}
 use Rattle.descent.specs.declared.kind.Kind.{Kind}
 use Rattle.descent.specs.declared.line.Line.{Line}
 use Rattle.descent.specs.Lines.{serials_of, places_of, stands}
-use Rattle.descent.specs.Descent.{Descends, descends}
+use Rattle.descent.specs.Descent.{descends}
 use Rattle.descent.specs.Closure.{Placed}
 use Rattle.descent.specs.Coverage.{Covered, covered, each_kind, uppermost}
 use Rattle.descent.proofs.Descent.{descends_decided}
@@ -18,7 +18,7 @@ use Rattle.closing.specs.Tables.{Filled, cell, sets_of}
 use Rattle.codes.specs.Sorts.{Sort}
 use Rattle.words.specs.declared.word.WordKind.TheVariants.{Name}
 use Rattle.words.specs.Words.{word_of}
-use Rattle.asking.specs.Decoding.{covered_at, covered_places, some_place, in_set, overlies, below_others, uppermost_at, names_of, decoded}
+use Rattle.asking.specs.Decoding.{covered_at, some_place, overlies, below_covered, uppermost_at, names_of, decoded}
 use Rattle.asking.proofs.Covering.{apart_decides}
 
 -- some place passes exactly if not every kind fails
@@ -97,17 +97,6 @@ module _ (w : ℕ) (ks ps : List ℕ) (ls : List Line) (rows : List (ℕ → Boo
   covered_same : (a : ℕ) → a < length ks → covered_at w rows (λ p. not (f p)) (get_or ps a 0) ≡ covered ks ls set (get_or ks a 0)
   covered_same a h = same_from_decides (covered_at w rows (λ p. not (f p)) (get_or ps a 0)) (covered ks ls set (get_or ks a 0)) (row_covers a h) (kind_covers a h)
 
-  -- the covered kinds' places, at the place of a kind
-  abbrev cov : ℕ → Bool
-  cov = covered_places w rows (λ p. not (f p)) ps
-
-  covered-place : (a : ℕ) → a < length ks → cov (get_or ps a 0) ≡ covered ks ls set (get_or ks a 0)
-  covered-place a h =
-      ap (λ b. b && covered_at w rows (λ p. not (f p)) (get_or ps a 0)) (stands_at ps a (omega (arith, placed.paired, h))) ∙ covered_same a h
-
-  covered_within : (a : ℕ) → a < length ks → in_set w cov (get_or ps a 0) ≡ covered ks ls set (get_or ks a 0)
-  covered_within a h = ap (λ b. b && cov (get_or ps a 0)) (lt-ltb (get_or ps a 0) w (placed.below a h)) ∙ covered-place a h
-
   -- two kinds have one place exactly if they are one kind
   same_place : (a b : ℕ) → a < length ks → b < length ks → eqb (get_or ps a 0) (get_or ps b 0) ≡ eqb (get_or ks b 0) (get_or ks a 0)
   same_place a b h l =
@@ -129,18 +118,17 @@ module _ (w : ℕ) (ks ps : List ℕ) (ls : List Line) (rows : List (ℕ → Boo
       let p = get_or ps a 0 in
       let low = lt-ltb p w (placed.below a h) in
       let here = stands_at ks a h in
-      let others = each_kind (λ m. not (covered ks ls set m && descends ls k m) || eqb m k) ks in
-      let none = some_each (overlies w rows cov p) (λ m. not (covered ks ls set m && descends ls k m) || eqb m k) ks ps placed.paired (λ b l. over b l) in
-      ap (λ x. x && (not (below_others w rows cov ps p) && cov p)) low
-      ∙ ap₂ (λ x y. not x && y) none (covered-place a h)
-      ∙ twice (covered ks ls set k) others
-      ∙ ap (λ y. (y && covered ks ls set k) && others) (sym here)
+      let none = some_each (overlies w rows (λ q. not (f q)) p) (λ m. not (covered ks ls set m && descends ls k m) || eqb m k) ks ps placed.paired
+      (λ b l. over b l) in
+      ap₂ (λ x y. x && not (y && below_covered w rows (λ q. not (f q)) ps p)) (covered_same a h) low
+      ∙ ap (λ y. covered ks ls set k && not y) none
+      ∙ twice (covered ks ls set k) (each_kind (λ m. not (covered ks ls set m && descends ls k m) || eqb m k) ks)
+      ∙ ap (λ y. (y && covered ks ls set k) && each_kind (λ m. not (covered ks ls set m && descends ls k m) || eqb m k) ks) (sym here)
     where
-      twice : (x y : Bool) → (not (not y) && x) ≡ ((true && x) && y)
+      twice : (x y : Bool) → (x && not (not y)) ≡ ((true && x) && y)
       twice true true = refl
       twice true false = refl
-      twice false true = refl
-      twice false false = refl
+      twice false y = refl
 
       turn : (x y z : Bool) → (x && (y && not z)) ≡ not (not (x && y) || z)
       turn true true z = refl
@@ -148,10 +136,10 @@ module _ (w : ℕ) (ks ps : List ℕ) (ls : List Line) (rows : List (ℕ → Boo
       turn false y z = refl
 
       over : (b : ℕ) → b < length ks →
-          overlies w rows cov (get_or ps a 0) (get_or ps b 0)
+          overlies w rows (λ q. not (f q)) (get_or ps a 0) (get_or ps b 0)
           ≡ not (not (covered ks ls set (get_or ks b 0) && descends ls (get_or ks a 0) (get_or ks b 0)) || eqb (get_or ks b 0) (get_or ks a 0))
       over b l =
-          ap (λ x. x && (cell rows (get_or ps b 0) (get_or ps a 0) && not (eqb (get_or ps a 0) (get_or ps b 0)))) (covered_within b l)
+          ap (λ x. x && (cell rows (get_or ps b 0) (get_or ps a 0) && not (eqb (get_or ps a 0) (get_or ps b 0)))) (covered_same b l)
           ∙ ap₂ (λ y z. covered ks ls set (get_or ks b 0) && (y && not z)) (filled.descent b a l h) (same_place a b h l)
           ∙ turn (covered ks ls set (get_or ks b 0)) (descends ls (get_or ks a 0) (get_or ks b 0)) (eqb (get_or ks b 0) (get_or ks a 0))
 

@@ -1,5 +1,5 @@
 -- What a question means by places is what it means by lines.
-use Rattle.std.proofs.Common.{◌≡◌, ℕ, ◌<◌, Bool, true, false, not, ◌&&◌, ◌||◌, List, [], ◌∷◌, length, get_or, sym, refl, ap, ◌∙◌, ap₂, inl, inr, arith}
+use Rattle.std.proofs.Common.{◌≡◌, ℕ, ◌<◌, Bool, true, false, ◌&&◌, ◌||◌, List, [], ◌∷◌, length, get_or, sym, refl, ap, ◌∙◌, ap₂, inl, inr, arith}
 use mathlib.Core.Path.{fun_ext}
 use Rattle.std.specs.List.{AllByRecursion as All}
 use Rattle.std.proofs.lemmas.Bool.{both_ways, cases_Bool}
@@ -13,7 +13,7 @@ use Rattle.descent.specs.Closure.{Placed}
 use Rattle.descent.proofs.Descent.{descends_decided}
 use Rattle.descent.proofs.Lines.{stands_at, stands_position}
 use Rattle.closing.specs.Tables.{Filled, cell}
-use Rattle.questions.specs.Questions.{applied, holds, value_of, on_top, on_two}
+use Rattle.questions.specs.Questions.{applied, holds, value_of}
 use Rattle.catalogue.specs.View.{View}
 use Rattle.catalogue.specs.Ledger.{set_of}
 use Rattle.asking.specs.Naming.{seat, row_places}

@@ -1,53 +1,77 @@
 // From the places of a question's set to the names of the uppermost kinds that it covers.
-ghost use Rattle.std.specs.Prelude.{◌≡◌, ◌+◌, ◌<◌, ◌≤◌, not, ◌&&◌, ◌||◌, ◌∷◌, ◌++◌, length, drop, ◌==◌};
+ghost use Rattle.std.specs.Prelude.{◌≡◌, ℕ, ◌+◌, ◌≤◌, Bool, not, ◌&&◌, ◌||◌, ◌∷◌, ◌++◌, length, drop, ◌==◌, nat_lt};
 ghost use Rattle.std.proofs.Math.Seq.{paste};
 ghost use Rattle.words.specs.declared.word.WordKind.TheVariants.{AnswerHead};
 ghost use Rattle.words.specs.Words.{word_of};
 ghost use Rattle.codes.specs.Sorts.{Agree};
-ghost use Rattle.closing.specs.Tables.{cell, sets_of};
+ghost use Rattle.closing.specs.Tables.{sets_of};
 ghost use Rattle.descent.specs.Lines.{places_of};
-ghost use Rattle.asking.specs.Decoding.{in_set, below_others, names_of, decoded};
+ghost use Rattle.asking.specs.Decoding.{apart, below_covered, chosen, names_of, decoded};
 
-use super::covered::covered_kinds;
-use super::naming::row_at;
 use codes::{Code, Truth};
 use descent::Standing;
 use words::{WordKind, make_word};
 
-// Joins what descends from the kind at this place, without the kind itself.
-fn join_others<C: Code + Drop>(below: &mut C, table: &[C::Row], place: usize)
-    requires { place < length table.now }
-    ensures { Agree C.Truth.sort.width (C.Truth.sort.means below.new) (λ p. C.Truth.sort.means below.old p || (cell (sets_of C.Truth.sort table.now) place p && not (p == place))) }
+// Whether no place of the row lies outside.
+fn is_covered<C: Code + Drop>(row: C::Row, outside: &C) -> bool
+    ensures { result ≡ apart C.Truth.sort.width (C.Truth.sort.reads row) (C.Truth.sort.means outside.now) }
 {
-    let mut others = C::read(row_at::<C>(table, place));
+    let mut left = C::read(row);
+    left.meet(outside);
+    match left.next(0) {
+        None => true,
+        Some(_) => false,
+    }
+}
+
+// Joins the row without the kind's own place.
+fn join_others<C: Code + Drop>(below: &mut C, row: C::Row, place: usize)
+    ensures { Agree C.Truth.sort.width (C.Truth.sort.means below.new) (λ p. C.Truth.sort.means below.old p || (C.Truth.sort.reads row p && not (p == place))) }
+{
+    let mut others = C::read(row);
     let _ = others.take(place);
     below.join(&others);
 }
 
-// The places of the kinds that lie below another kind of the set.
-fn lying_below<C: Code + Drop>(standing: &Standing<'_>, table: &[C::Row], set: &C) -> C
+// The places of the kinds that lie below another covered kind.
+fn lying_below<C: Code + Drop>(standing: &Standing<'_>, table: &[C::Row], outside: &C) -> C
     requires { standing.now.width ≤ length table.now }
-    ensures { Agree C.Truth.sort.width (C.Truth.sort.means result) (below_others C.Truth.sort.width (sets_of C.Truth.sort table.now) (C.Truth.sort.means set.now) (places_of standing.now.kinds.now)) }
+    ensures { Agree C.Truth.sort.width (C.Truth.sort.means result) (below_covered C.Truth.sort.width (sets_of C.Truth.sort table.now) (C.Truth.sort.means outside.now) (places_of standing.now.kinds.now)) }
 {
     let mut below = C::empty();
     for kind in standing.kinds {
-        if set.has(kind.place) {
-            join_others::<C>(&mut below, table, kind.place);
+        let row = table[kind.place];
+        if is_covered::<C>(row, outside) {
+            join_others::<C>(&mut below, row, kind.place);
         }
     }
     below
 }
 
-// Writes the names of the kinds of the set behind the place of a head, and tells how many.
-fn write_names<C: Code + Drop>(standing: &Standing<'_>, set: &C, answer: &mut [u32]) -> usize
+// Whether the kind with this row and place is covered, and not one of those below.
+fn is_chosen<C: Code + Drop>(row: C::Row, place: usize, outside: &C, below: &C) -> bool
+    ensures { result ≡ (apart C.Truth.sort.width (C.Truth.sort.reads row) (C.Truth.sort.means outside.now) && not (nat_lt place C.Truth.sort.width && C.Truth.sort.means below.now place)) }
+{
+    is_covered::<C>(row, outside) && !below.has(place)
+}
+
+// Writes the names of the chosen kinds behind the place of a head, and tells how many.
+fn write_names<C: Code + Drop>(
+    standing: &Standing<'_>,
+    table: &[C::Row],
+    outside: &C,
+    below: &C,
+    answer: &mut [u32],
+) -> usize
+    requires rows { standing.now.width ≤ length table.now }
     requires room { length standing.now.kinds.now + 1 ≤ length answer.old }
     requires few { length standing.now.kinds.now ≤ 512 }
-    ensures count { result ≡ length (names_of (in_set C.Truth.sort.width (C.Truth.sort.means set.now)) standing.now.kinds.now) }
-    ensures list { answer.new ≡ paste answer.old 1 (names_of (in_set C.Truth.sort.width (C.Truth.sort.means set.now)) standing.now.kinds.now) result }
+    ensures count { result ≡ length (names_of (chosen C.Truth.sort.width (sets_of C.Truth.sort table.now) (C.Truth.sort.means outside.now) (C.Truth.sort.means below.now)) standing.now.kinds.now) }
+    ensures list { answer.new ≡ paste answer.old 1 (names_of (chosen C.Truth.sort.width (sets_of C.Truth.sort table.now) (C.Truth.sort.means outside.now) (C.Truth.sort.means below.now)) standing.now.kinds.now) result }
 {
     let mut count = 0;
     for kind in standing.kinds {
-        if set.has(kind.place) {
+        if is_chosen::<C>(table[kind.place], kind.place, outside, below) {
             answer[1 + count] = make_word(WordKind::Name, kind.serial);
             count += 1;
         }
@@ -71,11 +95,8 @@ pub(super) fn decode<C: Code + Drop>(
 {
     let mut outside = C::read(set);
     outside.complement();
-    let covered = covered_kinds::<C>(standing, table, &outside);
-    let mut uppermost = lying_below::<C>(standing, table, &covered);
-    uppermost.complement();
-    uppermost.meet(&covered);
-    let count = write_names::<C>(standing, &uppermost, answer);
+    let below = lying_below::<C>(standing, table, &outside);
+    let count = write_names::<C>(standing, table, &outside, &below, answer);
     answer[0] = make_word(WordKind::AnswerHead, count as u32);
     count + 1
 }

@@ -1,8 +1,8 @@
 // Asking a question of a closed catalogue, and fitting a kind to a question, over any sort of code.
 #![tactic(auto)]
+
 mod answer;
 mod checks;
-mod covered;
 mod decode;
 mod fit_names;
 mod fitting;

@@ -1,4 +1,4 @@
-use Rattle.std.proofs.Common.{◌≡◌, ℕ, ◌+◌, ◌≤◌, map, length, get_or, Some, None, sym, refl, ap, ◌∙◌, arith}
+use Rattle.std.proofs.Common.{length, get_or, Some, None, sym, refl, ap, ◌∙◌, arith}
 use Rattle.std.proofs.lemmas.Result.{err_from_is_err_and, IfOk-from_err}
 use Rattle.descent.specs.Lines.{stands}
 use Rattle.words.specs.Refusals.{question_told}
@@ -16,26 +16,26 @@ use Rattle.asking.proofs.answer.ask.Goals as goal
 pub invariant_of-names : goal.invariant_of-names
 invariant_of-names g c =
     let a = c.args in
-    ((ask_ready (view a.catalogue.now).book (length a.table.now) (length a.answer.now) (length a.working.now) c.in_ok-check_ask.ensures).rows, tt)
+    record { room = (ask_ready (view a.catalogue.now).book (length a.table.now) (length a.answer.now) (length a.working.now) c.in_ok-check_ask.ensures).rows }
 
 pub returns-in_err-check_ask : goal.returns-in_err-check_ask
 returns-in_err-check_ask g c =
     let a = c.args in
-    let p = err_from_is_err_and c.from-residual.result c.from-residual.ensures.1 in
+    let p = err_from_is_err_and c.from_residual.result c.from_residual.ensures.1 in
     record {
-      says = err_says p.0 question_told c.from-residual.result _ p.1
+      says = err_says p.0 question_told c.from_residual.result _ p.1
           (ask_stops (view a.catalogue.now).book a.words.now (length a.table.now) (length a.working.now) (length a.answer.now) (question_told p.0)
           (c.in_err-check_ask.ensures ∙ ap (λ (f : QuestionFault). Some (question_told f)) (sym p.2)));
-      list = λ _. err_listed p.0 (answer_of (answering (view a.catalogue.now).book a.words.now)) a.answer.now a.answer.now c.from-residual.result p.1 refl;
-      set = λ _. IfOk-from_err c.from-residual.result _ c.from-residual.ensures.0;
-      kept = err_kept p.0 a.answer.now a.answer.now c.from-residual.result p.1 refl;
+      list = λ _. err_listed p.0 (answer_of (answering (view a.catalogue.now).book a.words.now)) a.answer.now a.answer.now c.from_residual.result p.1 refl;
+      set = λ _. IfOk-from_err c.from_residual.result _ c.from_residual.ensures.0;
+      kept = err_kept p.0 a.answer.now a.answer.now c.from_residual.result p.1 refl;
       beyond = refl;
     }
 
 pub returns-in_err-evaluate : goal.returns-in_err-evaluate
 returns-in_err-evaluate g c =
     let a = c.args in
-    let gone = c.from-residual-in_err-evaluate in
+    let gone = c.from_residual-in_err-evaluate in
     let p = err_from_is_err_and gone.result gone.ensures.1 in
     record {
       says = err_says p.0 question_told gone.result _ p.1

@@ -1,4 +1,4 @@
-use Rattle.std.proofs.Common.{◌≡◌, ℕ, suc, ◌+◌, ◌<◌, ◌≤◌, Bool, not, ◌&&◌, List, ◌∷◌, ◌++◌, length, drop, set, sym, refl, ap, ◌∙◌, ap₂, add-one, arith}
+use Rattle.std.proofs.Common.{◌≡◌, ℕ, ◌+◌, ◌≤◌, Bool, not, List, ◌∷◌, ◌++◌, length, drop, set, sym, ap, ◌∙◌, ap₂, add-one, arith}
 use mathlib.Core.Path.{fun_ext}
 use lib.Seq.{paste}
 use Rattle.words.specs.declared.word.WordKind.TheVariants.{AnswerHead}
@@ -6,21 +6,21 @@ use Rattle.words.specs.Words.{low_bits, word_of}
 use Rattle.closing.specs.Tables.{sets_of}
 use Rattle.descent.specs.Lines.{places_of}
 use Rattle.formats.proofs.Keeping.{headed}
-use Rattle.asking.specs.Decoding.{in_set, names_of, decoded}
-use Rattle.asking.proofs.Covering.{uppermost_alike}
+use Rattle.asking.specs.Decoding.{chosen, names_of, decoded}
+use Rattle.asking.proofs.Covering.{chosen_alike}
 use Rattle.asking.proofs.Written.{names_few}
 use Rattle.asking.proofs.decode.decode.Goals as goal
 
 pub overflow_cast-count : goal.overflow_cast-count
 overflow_cast-count g c =
     let s = g.C.Truth.sort in
-    let few = names_few (in_set s.width (s.means c.meet.new.self)) c.args.standing.now.kinds.now in
+    let few = names_few (chosen s.width (sets_of s c.args.table.now) (s.means c.complement.new.self) (s.means c.lying_below-below.result)) c.args.standing.now.kinds.now in
     omega (arith, few, c.write_names-count.ensures.count, c.requires.few)
 
 pub overflow_add-result : goal.overflow_add-result
 overflow_add-result g c =
     let s = g.C.Truth.sort in
-    let few = names_few (in_set s.width (s.means c.meet.new.self)) c.args.standing.now.kinds.now in
+    let few = names_few (chosen s.width (sets_of s c.args.table.now) (s.means c.complement.new.self) (s.means c.lying_below-below.result)) c.args.standing.now.kinds.now in
     omega (arith, few, c.write_names-count.ensures.count, c.requires.few)
 
 pub returns : goal.returns
@@ -32,17 +32,13 @@ returns g c =
     let n = c.write_names-count.result in
     let out = s.means c.complement.new.self in
     let outside : ℕ → Bool = λ p. not (s.reads c.args.set p) in
-    let covered = s.means c.covered_kinds-covered.result in
-    let upper = s.means c.meet.new.self in
-    let right : names_of (in_set s.width upper) kinds ≡ decoded s kinds table c.args.set =
+    let right : names_of (chosen s.width (sets_of s table) out (s.means c.lying_below-below.result)) kinds ≡ decoded s kinds table c.args.set =
     ap (λ test. names_of test kinds)
-    (fun_ext (uppermost_alike s.width (sets_of s table) (places_of kinds) out outside covered (s.means c.lying_below-uppermost.result) upper
-    (λ p h. c.complement.ensures p h ∙ ap not (c.read-outside.ensures.set p h))
-    c.covered_kinds-covered.ensures c.lying_below-uppermost.ensures
-    (λ p h. c.meet.ensures p h ∙ ap (λ b. b && covered p) (c.complement-2.ensures p h)))) in
+    (fun_ext (chosen_alike s.width (sets_of s table) out outside (s.means c.lying_below-below.result) (places_of kinds)
+    (λ p h. c.complement.ensures p h ∙ ap not (c.read-outside.ensures.set p h)) c.lying_below-below.ensures)) in
     let names = decoded s kinds table c.args.set in
     let many : n ≡ length names = c.write_names-count.ensures.count ∙ ap length right in
-    let few = names_few (in_set s.width upper) kinds in
+    let few = names_few (chosen s.width (sets_of s table) out (s.means c.lying_below-below.result)) kinds in
     let low : low_bits n ≡ n = omega (arith, few, c.write_names-count.ensures.count, c.requires.few) in
     let fits : 1 ≤ length old = omega (arith, c.requires.room) in
     record {

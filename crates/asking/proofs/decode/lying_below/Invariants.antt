@@ -2,12 +2,11 @@ use Rattle.std.proofs.Common.{take}
 use Rattle.codes.specs.Sorts.{Agree}
 use Rattle.closing.specs.Tables.{sets_of}
 use Rattle.descent.specs.Lines.{places_of}
-use Rattle.asking.specs.Decoding.{below_others}
+use Rattle.asking.specs.Decoding.{below_covered}
 use Rattle.asking.proofs.decode.lying_below.Given as goal
 
--- what lies below the kinds passed is in
 abbrev pub invariant-loop-kind : goal.invariant-loop-kind
 invariant-loop-kind g l =
     let s = g.C.Truth.sort in
     Agree s.width (s.means l.below)
-    (below_others s.width (sets_of s l.table) (s.means l.set) (take l.kind-index (places_of l.standing.kinds.now)))
+    (below_covered s.width (sets_of s l.table) (s.means l.outside) (take l.kind-index (places_of l.standing.kinds.now)))

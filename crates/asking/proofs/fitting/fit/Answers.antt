@@ -13,12 +13,12 @@ use Rattle.asking.proofs.fitting.fit.Goals as goal
 pub invariant_of-names : goal.invariant_of-names
 invariant_of-names g c =
     let a = c.args in
-    ((fit_ready (view a.catalogue.now).book (length a.table.now) (length a.working.now) c.in_ok-check_fit.ensures).rows, tt)
+    record { room = (fit_ready (view a.catalogue.now).book (length a.table.now) (length a.working.now) c.in_ok-check_fit.ensures).rows }
 
 pub returns-in_err-check_fit : goal.returns-in_err-check_fit
 returns-in_err-check_fit g c =
     let a = c.args in
-    let gone = c.from-residual in
+    let gone = c.from_residual in
     let p = err_from_is_err_and gone.result gone.ensures.1 in
     record {
       says = err_says p.0 question_told gone.result _ p.1
@@ -31,7 +31,7 @@ returns-in_err-check_fit g c =
 pub returns-in_err-check_count : goal.returns-in_err-check_count
 returns-in_err-check_count g c =
     let a = c.args in
-    let gone = c.from-residual-in_err-check_count in
+    let gone = c.from_residual-in_err-check_count in
     let p = err_from_is_err_and gone.result gone.ensures.1 in
     record {
       says = err_says p.0 question_told gone.result _ p.1
@@ -45,7 +45,7 @@ returns-in_err-check_count g c =
 pub returns-in_err-place : goal.returns-in_err-place
 returns-in_err-place g c =
     let a = c.args in
-    let gone = c.from-residual-in_err-place in
+    let gone = c.from_residual-in_err-place in
     let p = err_from_is_err_and gone.result gone.ensures.1 in
     record {
       says = err_says p.0 question_told gone.result _ p.1
@@ -60,7 +60,7 @@ returns-in_err-place g c =
 pub returns-in_err-evaluate : goal.returns-in_err-evaluate
 returns-in_err-evaluate g c =
     let a = c.args in
-    let gone = c.from-residual-in_err-evaluate in
+    let gone = c.from_residual-in_err-evaluate in
     let p = err_from_is_err_and gone.result gone.ensures.1 in
     let found : name_refusal (λ k. stands k (view a.catalogue.now).book.kinds) 0 a.serial ≡ None = search rules in
     record {

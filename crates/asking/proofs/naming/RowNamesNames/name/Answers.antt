@@ -1,4 +1,4 @@
-use Rattle.std.proofs.Common.{◌≡◌, ◌&&◌, sym, ap, ◌∙◌, ap₂, arith}
+use Rattle.std.proofs.Common.{◌&&◌, sym, ap, ◌∙◌, ap₂, arith}
 use Rattle.closing.specs.Tables.{cell, sets_of}
 use Rattle.asking.proofs.naming.RowNamesNames.name.Goals as goal
 
