@@ -1,5 +1,6 @@
 // Is-a lines between kinds of part, and what follows from them: descent, rings, coverage, and the closure by places.
 #![tactic(auto)]
+
 mod kind;
 mod line;
 mod standing;

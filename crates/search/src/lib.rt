@@ -1,5 +1,6 @@
 // Where a key stands in a row that is kept by rising key.
 #![tactic(auto)]
+
 mod keys;
 mod spot;
 

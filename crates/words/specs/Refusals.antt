@@ -1,5 +1,5 @@
 -- The number, the index and the part of every refusal, and when a list or a serial is refused.
-use Rattle.std.specs.Prelude.{◌≡◌, ℕ, ◌^◌, Bool, true, false, cond, ◌||◌, List, [], ◌∷◌, Some, None, Ok, Err, Option, Result, ◌==◌, nat_lt}
+use Rattle.std.specs.Prelude.{◌≡◌, ℕ, Bool, cond, ◌||◌, List, [], ◌∷◌, Some, None, Ok, Err, Option, Result, ◌==◌, nat_lt}
 use Rattle.words.specs.declared.refusal.Part.{Part}
 use Rattle.words.specs.declared.refusal.Part.TheVariants as part
 use Rattle.words.specs.declared.refusal.Refusal.{Refusal}

@@ -1,5 +1,6 @@
 // Words of 32 bits, the serials in them, and how a call is refused. Knows nothing of catalogues.
 #![tactic(auto)]
+
 mod files;
 mod refusal;
 mod serial;
