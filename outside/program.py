@@ -7,7 +7,7 @@ from pathlib import Path
 
 from model import Finder, NoCall
 
-FINDER = Path(__file__).resolve().parent.parent / "target" / "bin" / "finder"
+FINDER = Path(__file__).resolve().parent.parent / "crates" / "finder" / "out" / "finder"
 CODES = ["bits", "packets"]
 LONGEST_RUN = 300
 
