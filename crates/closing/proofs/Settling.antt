@@ -1,11 +1,9 @@
 -- Parts of lent lists after a walk, and the ring that its places tell.
-use Rattle.std.proofs.Common.{◌≡◌, ℕ, suc, ◌+◌, ◌-◌, ◌<◌, ◌≤◌, Bool, true, false, List, [], ◌∷◌, ◌++◌, map, length, get_or, take, drop, None, Option, sym, refl, ap, ◌∙◌, arith}
+use Rattle.std.proofs.Common.{◌≡◌, ℕ, suc, ◌+◌, ◌-◌, ◌<◌, ◌≤◌, true, List, [], ◌∷◌, ◌++◌, map, length, get_or, take, drop, sym, refl, ap, ◌∙◌, arith}
 use borrow.Rule.Slice.PartMut.{post_of, Post-is}
 use Rattle.std.proofs.lemmas.List.{length-take-le, length-map, drop_at, drop-map, drop-take, take-append-le, get_or-drop, length-drop}
-use Rattle.words.specs.declared.refusal.Refusal.{Refusal}
 use Rattle.words.specs.declared.word.WordKind.TheVariants.{RingHead, Name}
 use Rattle.words.specs.Words.{word_of}
-use Rattle.words.specs.Refusals.{first_of, refuse_if}
 use Rattle.descent.specs.declared.standing.Standing.{Standing}
 use Rattle.descent.specs.Lines.{serials_of, stands}
 use Rattle.descent.specs.Rings.{ringed}
@@ -35,14 +33,6 @@ pub part_middle : {X : Type 0} (ys zs : List X) (a n : ℕ) → a ≤ n → n �
 part_middle ys zs a n le long =
     let e : a + (n - a) ≡ n = omega arith in
     sym (drop-take a (n - a) (ys ++ zs)) ∙ ap (λ k. drop a (take k (ys ++ zs))) e ∙ ap (drop a) (take-append-le n ys zs long)
-
--- no refusal is due: none of the list
-pub first_none : (b : Bool) (r : Refusal) (rest : List (Option Refusal)) → first_of (refuse_if b r ∷ rest) ≡ None → (b ≡ false) × (first_of rest ≡ None)
-first_none true r rest h = let z : ◌≡◌ {A = ℕ} 0 1 = cc in absurd (omega arith)
-first_none false r rest h = (refl, h)
-
-pub told_none : (o : Option Refusal) (b : Bool) (r : Refusal) → o ≡ None → b ≡ false → first_of (o ∷ refuse_if b r ∷ []) ≡ None
-told_none o b r e f = rw (e, f)
 
 module _ (st : Standing) where
   back_again : (f : ℕ → ℕ) (xs : List ℕ) → ((i : ℕ) → i < length xs → stands (get_or xs i 0) (serials_of st.kinds.now) ≡ true) →

@@ -1,5 +1,5 @@
 use Rattle.std.proofs.Common.{◌<◌, ◌&&◌, ◌||◌, eqb, length, get_or, take, sym, ap, ◌∙◌, arith}
-use Rattle.std.proofs.lemmas.List.{get_or-map, length-map, take_all}
+use Rattle.std.proofs.lemmas.List.{get_or-map, length-map}
 use Rattle.descent.proofs.Proper.{below_at}
 use Rattle.closing.specs.Tables.{sets_of, cell}
 use Rattle.descent.specs.Lines.{places_of}
@@ -34,13 +34,3 @@ loop-kind-preserved g c =
           ∙ ap (λ b. cell old i j || b) (sym (own_more (places_of kinds) n i j lt)),
       c.put.ensures.beyond c.args.w (omega arith) ∙ c.loop-kind.invariant.1,
     )
-
-pub returns : goal.returns
-returns g c =
-    let kinds = c.args.kinds.now in
-    let old = sets_of g.C.Truth.sort c.args.table.now in
-    let all = take_all c.loop-kind.kind-index (places_of kinds) (simp length-map c.loop-kind-test.false) in
-    record {
-      cells = λ i j hi hj. c.loop-kind.invariant.0 i j hi hj ∙ ap (λ xs. cell old i j || own xs i j) all;
-      beyond = c.loop-kind.invariant.1;
-    }

@@ -1,5 +1,4 @@
 use Rattle.std.proofs.Common.{◌&&◌, ◌||◌, eqb, get_or, take, sym, ap, ◌∙◌, arith}
-use Rattle.std.proofs.lemmas.List.{take_all}
 use Rattle.closing.specs.Tables.{sets_of, cell}
 use Rattle.closing.specs.Direct.{place_of, linked}
 use Rattle.closing.proofs.Direct.{linked_more, or_assoc, line_ends, place-below}
@@ -38,13 +37,3 @@ loop-line-preserved g c =
           ∙ ap (λ b. cell old i j || b) (sym (linked_more kinds lines n i j (record { child = 0; parent = 0 }) c.loop-line-test.true)),
       c.put.ensures.beyond st.width (omega arith) ∙ c.loop-line.invariant.1,
     )
-
-pub returns : goal.returns
-returns g c =
-    let st = c.args.standing.now in
-    let old = sets_of g.C.Truth.sort c.args.table.now in
-    let all = take_all c.loop-line.line-index st.lines.now c.loop-line-test.false in
-    record {
-      cells = λ i j hi hj. c.loop-line.invariant.0 i j hi hj ∙ ap (λ xs. cell old i j || linked st.kinds.now xs i j) all;
-      beyond = c.loop-line.invariant.1;
-    }

@@ -30,11 +30,11 @@ set-requires g c =
     let low = place-below st c.loop-next.kind i.2.standing in
     omega (arith, i.1.long, c.place_of-place.ensures)
 
-pub parent-requires : goal.parent-requires
-parent-requires g c =
+pub parent-requires-clause-top_within : goal.parent-requires-clause-top_within
+parent-requires-clause-top_within g c =
     let st = c.args.standing.now in
     let low = place-below st c.args.top (leader_stands st c.args.top c.args.top c.requires.comes_round) in
-    record { top_within = omega (arith, c.place_of-peak.ensures); enough_rows = c.requires.enough_rows; enough_places = c.requires.enough_places }
+    omega (arith, c.place_of-peak.ensures)
 
 pub unreachable-requires : goal.unreachable-requires
 unreachable-requires g c =
