@@ -1,5 +1,6 @@
 // The finder at a terminal or a pipe: one call a line on standard input, one answer line back for each.
 #![tactic(auto)]
+
 mod calls;
 mod files;
 mod mistakes;

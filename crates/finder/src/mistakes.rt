@@ -27,6 +27,7 @@ fn sentence(mistake: Mistake) -> &'static [u8] {
         Mistake::Unreadable => b"the file cannot be read",
         Mistake::PartialWord => b"the file ends inside a word",
         Mistake::Unwritable => b"the file cannot be written; what it held is whole",
+        Mistake::NotBuilt => b"not built yet",
         Mistake::Memory => b"no memory for this call",
         Mistake::Usage => b"usage: finder [--code bits|packets] [IMAGE]",
     }

@@ -14,17 +14,14 @@ const HELP: &[u8] =
 # close                   fill the codes of what descends from each kind; refused where a ring stands
 # read WORDS              read an image into an empty catalogue
 # write                   write the image
-# ask WORDS               the uppermost kinds that a question covers, in a closed catalogue
-# fit SERIAL WORDS        whether a kind is itself in a question's set, in a closed catalogue
-#                         (a question's words: 1 and a serial for a name, 20000000 and, 30000000 or, 40000000 not,
-#                         50000000 all, 60000000 nothing; operators behind their operands)
 # recall WORDS            of the kinds that a kept answer names, those that stand
 # load FILE               read an image file into an empty catalogue
 # save FILE               write the image to a file, by way of FILE.tmp
 # kits FILE               recall each kept answer of a file; tell the kits, and how many lost kinds
 #                         (a kit ends with the names that its head counts, or before the next head)
+# ask WORDS, fit SERIAL WORDS are not built yet
 # help                    these lines
-# answers: ok, ok WORDS, ok yes, ok no, ok KITS CHANGED, refused NUMBER at INDEX by PART (ring WORDS), error and why
+# answers: ok, ok WORDS, ok KITS CHANGED, refused NUMBER at INDEX by PART (ring WORDS), error and why
 ";
 
 pub fn write_greeting(out: &mut Vec<u8>, code: CodeName) -> Result<(), AllocError> {

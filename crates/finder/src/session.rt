@@ -8,7 +8,7 @@ use super::trouble::Trouble;
 use asking::{ask, fit};
 use catalogue::{Catalogue, MAX_LINES, MAX_WIDTH, SetUpFault};
 use codes::{Code, Truth};
-use protocol::{kit_length, write_ok, write_ok_counts, write_ok_words, write_ring, write_verdict};
+use protocol::{kit_length, write_ok, write_ok_kits, write_ok_words, write_ring, write_verdict};
 use questions::MAX_ENTRIES;
 use std::alloc::{AllocError, Global};
 use words::{ClosingFault, Fault, low_bits};
@@ -39,7 +39,15 @@ pub struct Session<C: Code> {
     truths: Vec<bool>,
 }
 
-fn empty_rows<C: Code + Drop>(heap: Global, count: usize) -> Result<Vec<C::Row>, AllocError>
+// A table in which nothing descends from any kind.
+fn empty_rows<C: Code + Drop>(heap: Global) -> Result<Vec<C::Row>, AllocError>
+    ensures { IfOk result (λ v. vec_len v ≡ 512) }
+{
+    blank_rows::<C>(heap, WIDTH)
+}
+
+// So many rows of codes in which no place stands.
+fn blank_rows<C: Code + Drop>(heap: Global, count: usize) -> Result<Vec<C::Row>, AllocError>
     ensures { IfOk result (λ v. vec_len v ≡ count) }
 {
     let mut rows = Vec::new(heap);
@@ -51,13 +59,13 @@ impl<C: Code + Drop> Session<C> {
     pub fn new(heap: Global) -> Result<Session<C>, SetUpFault> {
         Ok(Session {
             catalogue: Catalogue::new(heap, WIDTH)?,
-            table: empty_rows::<C>(heap, WIDTH)?,
+            table: empty_rows::<C>(heap)?,
             marks: vec![in heap; 0; WIDTH]?,
             walk: vec![in heap; 0; WIDTH]?,
             ring: vec![in heap; 0; RING_WORDS]?,
             answer: vec![in heap; 0; ANSWER_WORDS]?,
             image: vec![in heap; 0; IMAGE_WORDS]?,
-            working: empty_rows::<C>(heap, MAX_ENTRIES)?,
+            working: blank_rows::<C>(heap, MAX_ENTRIES)?,
             truths: vec![in heap; false; MAX_ENTRIES]?,
         })
     }
@@ -187,7 +195,7 @@ impl<C: Code + Drop> Session<C> {
             }
             left = rest;
         }
-        write_ok_counts(out, kits, changed)?;
+        write_ok_kits(out, kits, changed)?;
         Ok(())
     }
 

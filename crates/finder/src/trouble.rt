@@ -13,6 +13,7 @@ pub enum Mistake {
     Unreadable,
     PartialWord,
     Unwritable,
+    NotBuilt,
     Memory,
     Usage,
 }
