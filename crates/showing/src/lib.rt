@@ -1,5 +1,6 @@
 // How the case programs show what a call gave: done, yes or no, the words that it wrote, or its refusal.
 #![tactic(auto)]
+
 use std::io;
 use words::{Fault, Part, Refusal};
 

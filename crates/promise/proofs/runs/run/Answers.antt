@@ -11,5 +11,5 @@ returns g c =
     let up = c.in_ok-catalogue.ensures in
     let w = g.C.Truth.sort.width in
     followed_in _ _ (blank w) c.args.calls.now (map shown (vec_items c.in_ok-said.said))
-    (same_rooms _ _ c.deref-mut.ensures.len c.deref-mut-2.ensures.len c.deref-mut-3.ensures.len c.deref-mut-4.ensures.len c.deref-mut-5.ensures.len c.deref-mut-6.ensures.len c.deref-mut-7.ensures.len)
-    (c.in_ok-said.ensures (blank w) (new_holds (view c.in_ok-catalogue.catalogue) (table_of g.C.Truth.sort c.deref-mut.result.now) (up.2 ∙ ap blank c.places.ensures)))
+    (same_rooms _ _ c.deref_mut.ensures.len c.deref_mut-2.ensures.len c.deref_mut-3.ensures.len c.deref_mut-4.ensures.len c.deref_mut-5.ensures.len c.deref_mut-6.ensures.len c.deref_mut-7.ensures.len)
+    (c.in_ok-said.ensures (blank w) (new_holds (view c.in_ok-catalogue.catalogue) (table_of g.C.Truth.sort c.deref_mut.result.now) (up.2 ∙ ap blank c.places.ensures)))

@@ -9,4 +9,4 @@ pub slice_bounds-write_lost-end : goal.slice_bounds-write_lost-end
 slice_bounds-write_lost-end g c =
     let left = still_standing (view c.args.self.now.catalogue).book c.args.kit.now in
     let within = written_within (answer_of left) _ _ _ c.in-Ok.ensures.list in
-    omega (arith, within, c.deref-mut.ensures.len, c.recall.auto.answer, c.deref.ensures.len)
+    omega (arith, within, c.deref_mut.ensures.len, c.recall.auto.answer, c.deref.ensures.len)

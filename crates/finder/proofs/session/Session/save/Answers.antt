@@ -8,4 +8,4 @@ pub slice_bounds-save_words-end : goal.slice_bounds-save_words-end
 slice_bounds-save_words-end g c =
     let book = (view c.args.self.now.catalogue).book in
     let within = written_within (image_of book.kinds book.lines) _ _ _ c.in_ok-count.ensures.list in
-    omega (arith, within, c.deref-mut.ensures.len, c.write_image.auto.image, c.deref.ensures.len)
+    omega (arith, within, c.deref_mut.ensures.len, c.write_image.auto.image, c.deref.ensures.len)
