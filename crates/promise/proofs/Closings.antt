@@ -1,5 +1,5 @@
 -- A closing that is handed the start of the code table keeps the table with its catalogue, and what stands with the ledger.
-use Rattle.std.proofs.Common.{◌≡◌, ℕ, ◌+◌, ◌<◌, ◌≤◌, Bool, true, false, ltb, List, [], ◌∷◌, ◌++◌, length, take, drop, is_err, Some, None, Ok, Err, Option, Result, sym, refl, ap, ◌∙◌, subst, arith}
+use Rattle.std.proofs.Common.{◌≡◌, ℕ, ◌+◌, ◌<◌, ◌≤◌, Bool, true, List, [], ◌∷◌, ◌++◌, length, take, drop, is_err, Some, None, Ok, Err, Option, Result, sym, refl, ap, ◌∙◌, subst, arith}
 use native.Mathlib.Decide.{dec_le}
 use Rattle.std.proofs.lemmas.List.{length-take-le, take-append-drop}
 use Rattle.std.proofs.lemmas.Bool.{lt-ltb}
@@ -16,7 +16,7 @@ use Rattle.catalogue.specs.declared.state.Catalogue.{Catalogue}
 use Rattle.catalogue.specs.Ledger.{Ledger, Call, refused, after, close}
 use Rattle.catalogue.specs.Table.{Table, table_of, Belongs}
 use Rattle.catalogue.specs.View.{View, view, Moved}
-use Rattle.promise.specs.Sayings.{Saying, done, unless_due, saying}
+use Rattle.promise.specs.Sayings.{Saying, saying}
 use Rattle.promise.specs.Holds.{Holds, Answered, plainly}
 use Rattle.promise.proofs.Prefixes.{start_belongs, whole_belongs}
 use Rattle.promise.proofs.Sayings.{plainly_said}

@@ -1,8 +1,7 @@
 -- With lists of full length, a call is refused for what the rules say of its subject alone.
-use Rattle.std.proofs.Common.{◌≡◌, ℕ, ◌+◌, ◌^◌, ◌<◌, ◌≤◌, Bool, true, not, List, [], ◌∷◌, map, length, Some, None, Option, sym, refl, ap, ◌∙◌, arith}
+use Rattle.std.proofs.Common.{◌≡◌, ℕ, ◌+◌, ◌^◌, ◌<◌, ◌≤◌, true, not, List, [], ◌∷◌, map, length, None, sym, refl, ap, ◌∙◌, arith}
 use Rattle.std.proofs.lemmas.List.{length-map, append-nil, drop_all}
 use Rattle.std.proofs.lemmas.Bool.{le-ltb, not_from_true}
-use Rattle.words.specs.declared.refusal.Refusal.{Refusal}
 use Rattle.words.specs.declared.refusal.Part.TheVariants as part
 use Rattle.words.specs.declared.word.WordKind.TheVariants.{Name, AnswerHead}
 use Rattle.words.specs.Words.{word_of, low_bits, is_kind}

@@ -1,5 +1,5 @@
 -- Each call says what the rules have it say, and keeps the table with its catalogue and what stands with its ledger.
-use Rattle.std.proofs.Common.{◌≡◌, Bool, true, false, IfOk, Some, None, Ok, Err, Option, Result, sym, refl, ap, ◌∙◌, subst}
+use Rattle.std.proofs.Common.{◌≡◌, false, IfOk, Some, None, Ok, Err, Option, Result, sym, refl, ap, ◌∙◌, subst}
 use Rattle.std.proofs.lemmas.Bool.{both_ways}
 use Rattle.words.specs.declared.refusal.Refusal.{Refusal}
 use Rattle.catalogue.specs.Ledger as ledger

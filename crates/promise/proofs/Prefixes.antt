@@ -1,9 +1,9 @@
 -- A call may be handed only the start of a list: what that means for the code table.
-use Rattle.std.proofs.Common.{◌≡◌, ℕ, ◌+◌, ◌-◌, ◌<◌, ◌≤◌, min, Bool, true, false, List, [], ◌∷◌, ◌++◌, map, length, get_or, take, drop, vec_items, sym, refl, ap, ◌∙◌, subst, arith}
+use Rattle.std.proofs.Common.{◌≡◌, ℕ, ◌-◌, ◌<◌, ◌≤◌, min, Bool, false, List, ◌++◌, length, get_or, take, vec_items, sym, refl, ap, ◌∙◌, arith}
 use native.Mathlib.Decide.{dec_le}
 use Rattle.codes.specs.Sorts.{Sort}
-use Rattle.closing.specs.Tables.{sets_of, cell, Filled}
-use Rattle.catalogue.specs.Table.{Table, table_of, Closed, Belongs}
+use Rattle.closing.specs.Tables.{sets_of}
+use Rattle.catalogue.specs.Table.{Table, table_of, Belongs}
 use Rattle.catalogue.specs.View.{View, view}
 use Rattle.catalogue.specs.declared.state.Catalogue.{Catalogue}
 use Rattle.descent.proofs.Proper.{below_at}

@@ -1,5 +1,5 @@
 -- Calls that said what the rules have them say make the promise.
-use Rattle.std.proofs.Common.{◌≡◌, ℕ, suc, ◌^◌, ◌<◌, ◌≤◌, Bool, true, false, not, ◌&&◌, ltb, ◌⊎◌, ◌↔◌, List, [], ◌∷◌, ◌++◌, length, get_or, Some, None, filter, Option, sym, refl, ap, ◌∙◌, subst, ap₂, inl, inr, arith}
+use Rattle.std.proofs.Common.{◌≡◌, ℕ, suc, ◌^◌, Bool, true, false, not, ◌&&◌, ltb, ◌⊎◌, ◌↔◌, List, [], ◌∷◌, ◌++◌, length, get_or, Some, None, filter, Option, sym, refl, ap, ◌∙◌, subst, ap₂, inl, inr, arith}
 use Rattle.std.proofs.lemmas.List.Filters.{length-filter_both}
 use Rattle.std.proofs.lemmas.Bool.{and_parts, and_from}
 use Rattle.std.proofs.lemmas.Bool.Decides.{nat_tests}
@@ -8,23 +8,22 @@ use Rattle.words.specs.declared.refusal.Part.TheVariants as part
 use Rattle.words.specs.Refusals.{refusal, refuse_if}
 use Rattle.descent.specs.declared.line.Line.{Line}
 use Rattle.descent.specs.Lines.{stands}
-use Rattle.descent.specs.Order.{rising_from}
 use Rattle.descent.specs.Proper.{below}
 use Rattle.descent.specs.Descent.{LeadsUp, descends}
 use Rattle.descent.specs.Rings.{ringed}
-use Rattle.descent.specs.Coverage.{Uppermost, uppermost}
+use Rattle.descent.specs.Coverage.{uppermost}
 use Rattle.descent.proofs.Rings.{ringed_decided}
 use Rattle.descent.proofs.Coverage.{uppermost_decided}
 use Rattle.questions.specs.Questions.{question_refusal}
 use Rattle.questions.proofs.Readings.{question_read}
 use Rattle.formats.specs.Formats.{answer_of, answer_refusal}
-use Rattle.catalogue.specs.Ledger.{Ledger, Call, blank, after, refused, ask, fit, close, recall, set_of, answering, still_standing}
+use Rattle.catalogue.specs.Ledger.{Ledger, Call, blank, after, refused, ask, fit, set_of, answering, still_standing}
 use Rattle.descent.specs.Proper.{CanHold}
 use Rattle.descent.proofs.Rising.{rising_kept}
 use Rattle.promise.specs.Calls.{ledger_after}
-use Rattle.promise.specs.Sayings.{Saying, done, wrote, verdict, stopped, unless_due, saying}
+use Rattle.promise.specs.Sayings.{Saying, done, wrote, verdict, unless_due, saying}
 use Rattle.promise.specs.Holds.{Followed}
-use Rattle.promise.specs.Promise.{Run, Turn, Closing, Asking, Fitting, Recalling, Gave, Judged, Alike, Refuses, answer_by_rules, fit_by_rules, InSet, NamesUppermost, Sound, Promised}
+use Rattle.promise.specs.Promise.{Run, Turn, Closing, Recalling, Gave, Judged, Alike, Refuses, answer_by_rules, fit_by_rules, InSet, NamesUppermost, Sound, Promised}
 use Rattle.promise.proofs.Dues.{ask_passed, fit_passed, ask_due, fit_due, close_due, recall_due, answer_accepted}
 
 -- at every call the ledger tells what stood, and the call said what the rules have it say

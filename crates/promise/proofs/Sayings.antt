@@ -1,5 +1,5 @@
 -- What a call said is what the rules have it say.
-use Rattle.std.proofs.Common.{◌≡◌, ℕ, ◌≤◌, Bool, true, false, ltb, List, [], ◌∷◌, ◌++◌, length, take, drop, IfOk, Some, None, Ok, Err, Option, Result, sym, refl, ap, ◌∙◌, subst, append_assoc, arith}
+use Rattle.std.proofs.Common.{◌≡◌, ℕ, ◌≤◌, Bool, ltb, List, ◌∷◌, ◌++◌, length, take, drop, IfOk, Some, None, Ok, Err, Option, Result, sym, ap, ◌∙◌, append_assoc, arith}
 use Rattle.std.proofs.lemmas.List.{take_at, length-take-le}
 use Rattle.std.proofs.lemmas.Bool.{ltb-false}
 use Rattle.words.specs.declared.refusal.Refusal.{Refusal}
@@ -12,7 +12,7 @@ use Rattle.catalogue.specs.Table.{table_of, Belongs}
 use Rattle.catalogue.specs.View.{view}
 use Rattle.words.proofs.Chain.{all_pass, not-refused}
 use Rattle.promise.specs.declared.said.Said.{Said}
-use Rattle.promise.specs.Sayings.{Saying, done, wrote, verdict, stopped, unless_due, saying, shown}
+use Rattle.promise.specs.Sayings.{Saying, done, wrote, verdict, unless_due, saying, shown}
 use Rattle.promise.specs.Holds.{plainly, in_words, as_verdict}
 use Rattle.promise.proofs.Prefixes.{start_belongs}
 

@@ -1,8 +1,8 @@
 -- What a call says: by the rules, and as the program tells it.
-use Rattle.std.specs.Prelude.{◌≡◌, ℕ, Bool, List, [], ◌∷◌, Some, None, vec_items, Option}
+use Rattle.std.specs.Prelude.{ℕ, Bool, List, Some, None, vec_items, Option}
 use Rattle.words.specs.declared.refusal.Refusal.{Refusal}
 use Rattle.formats.specs.Formats.{answer_of, image_of}
-use Rattle.catalogue.specs.Ledger.{Ledger, Call, refused, after, still_standing, answering, set_of, enter, withdraw, enter_line, withdraw_line, read_image, write_image, recall, close, ask, fit}
+use Rattle.catalogue.specs.Ledger.{Ledger, Call, refused, still_standing, answering, set_of, enter, withdraw, enter_line, withdraw_line, read_image, write_image, recall, close, ask, fit}
 use Rattle.promise.specs.declared.said.Said.{Said}
 use Rattle.promise.specs.declared.said.Said.TheVariants.{Done, Words, Verdict, Refused}
 

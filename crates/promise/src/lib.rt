@@ -1,5 +1,6 @@
 // Two finders over any two sorts of code, each after calls of its own, never disagree.
 #![tactic(auto)]
+
 mod calls;
 mod memory;
 mod runs;

@@ -1,4 +1,4 @@
-use Rattle.std.proofs.Common.{◌≡◌, List, map, vec_items, sym, refl, ap, ◌∙◌}
+use Rattle.std.proofs.Common.{map, vec_items, ap, ◌∙◌}
 use Rattle.std.proofs.lemmas.List.{map_push}
 use Rattle.promise.specs.Sayings.{shown}
 use Rattle.promise.proofs.Following.{followed_next, followed_all, same_rooms}

@@ -1,4 +1,4 @@
-use Rattle.std.proofs.Common.{◌≡◌, map, vec_items, ap, ◌∙◌}
+use Rattle.std.proofs.Common.{map, vec_items, ap, ◌∙◌}
 use Rattle.catalogue.specs.Ledger.{blank}
 use Rattle.catalogue.specs.Table.{table_of}
 use Rattle.catalogue.specs.View.{view}

@@ -1,4 +1,4 @@
-use Rattle.std.proofs.Common.{◌≡◌, ℕ, ◌-◌, min, length, take, refl, ap, ◌∙◌, ap₂, arith}
+use Rattle.std.proofs.Common.{ℕ, ◌-◌, min, length, take, refl, ap, ◌∙◌, ap₂, arith}
 use borrow.Rule.Slice.PartMut.{post_of}
 use Rattle.words.specs.Refusals.{question_told}
 use Rattle.catalogue.specs.Ledger.{ask}

@@ -1,5 +1,5 @@
-use Rattle.std.proofs.Common.{◌≡◌, ℕ, ◌-◌, List, ◌++◌, length, take, drop, sym, refl, ap, ◌∙◌, arith}
-use borrow.Rule.Slice.PartMut.{post_of, Post-is}
+use Rattle.std.proofs.Common.{◌≡◌, ℕ, ◌-◌, List, ◌++◌, drop, sym, ap, ◌∙◌, arith}
+use borrow.Rule.Slice.PartMut.{Post-is}
 use Rattle.words.specs.Refusals.{closing_told}
 use Rattle.catalogue.specs.Table.{table_of}
 use Rattle.catalogue.specs.View.{view}

@@ -1,4 +1,4 @@
-use Rattle.std.proofs.Common.{◌≡◌, ℕ, ◌-◌, ap, ◌∙◌, ap₂, arith}
+use Rattle.std.proofs.Common.{ℕ, ◌-◌, ◌∙◌, ap₂, arith}
 use Rattle.words.specs.Refusals.{question_told}
 use Rattle.catalogue.specs.Ledger.{fit}
 use Rattle.catalogue.specs.View.{view}

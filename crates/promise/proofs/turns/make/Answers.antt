@@ -1,4 +1,4 @@
-use Rattle.std.proofs.Common.{◌≡◌, refl}
+use Rattle.std.proofs.Common.{refl}
 use Rattle.words.specs.Refusals.{catalogue_told, image_told}
 use Rattle.catalogue.specs.Ledger as ledger
 use Rattle.catalogue.specs.Table.{table_of}
