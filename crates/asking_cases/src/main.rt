@@ -1,5 +1,6 @@
 // The worked cases of asking, fitting and recalling in the clutch catalogue, over bits and over packets.
 #![tactic(auto)]
+
 mod tables;
 
 use asking::{ask, fit};

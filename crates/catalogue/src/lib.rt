@@ -1,5 +1,6 @@
 // A catalogue of kinds and lines: entering, withdrawing, closing, its image, and recalling kept answers.
 #![tactic(auto)]
+
 mod close;
 mod enter;
 mod image;

@@ -1,5 +1,6 @@
 // Cases for the catalogue: each refusal that its calls can give, its bounds, and a kit that outlives a kind.
 #![tactic(auto)]
+
 mod show;
 mod tables;
 

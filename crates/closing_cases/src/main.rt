@@ -1,5 +1,6 @@
 // Cases for the closing of a catalogue, over bits and over packets: tables, rings, and lists that are too short or too long.
 #![tactic(auto)]
+
 mod lists;
 mod runs;
 mod show;

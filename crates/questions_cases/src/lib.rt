@@ -1,5 +1,6 @@
 // Questions with known answers, asked at yes and no.
 #![tactic(auto)]
+
 mod few;
 #[cfg(test)]
 mod tests;
