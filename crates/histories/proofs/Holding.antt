@@ -1,11 +1,11 @@
 -- Each call keeps the table with its catalogue, and what stands with its ledger.
-use Rattle.std.proofs.Common.{◌≡◌, ℕ, ◌+◌, ◌-◌, ◌<◌, ◌≤◌, min, Bool, true, false, List, [], ◌∷◌, ◌++◌, length, get_or, take, Some, None, Ok, Err, Option, Result, sym, refl, ap, ◌∙◌, subst, arith}
+use Rattle.std.proofs.Common.{◌≡◌, ℕ, ◌+◌, ◌-◌, ◌<◌, ◌≤◌, min, false, List, [], ◌∷◌, ◌++◌, length, get_or, take, Some, None, Ok, Err, Option, Result, sym, refl, ap, ◌∙◌, subst, arith}
 use Rattle.std.proofs.lemmas.List.{take_more, take_all, length-take}
 use Rattle.std.proofs.lemmas.Bool.{both_ways}
 use Rattle.words.specs.declared.refusal.Refusal.{Refusal}
 use Rattle.catalogue.specs.Ledger.{Ledger, refused, accepted, unless, after}
 use Rattle.catalogue.specs.Ledger as ledger
-use Rattle.catalogue.specs.Table.{Table, Closed, Belongs}
+use Rattle.catalogue.specs.Table.{Table, Belongs}
 use Rattle.catalogue.specs.View.{View, Moved}
 use Rattle.histories.specs.declared.calls.Call.{Call}
 use Rattle.histories.specs.Calls.{Rooms, heard, ledger_after}

@@ -1,5 +1,5 @@
-use Rattle.std.proofs.Common.{◌≡◌, ℕ, length, sym, refl, ap, ◌∙◌}
-use Rattle.histories.specs.Calls.{Rooms, rooms}
+use Rattle.std.proofs.Common.{◌≡◌, ℕ}
+use Rattle.histories.specs.Calls.{rooms}
 use Rattle.histories.proofs.Holding.{holds_next, holds-all}
 use Rattle.histories.proofs.runs.follow.Goals as goal
 

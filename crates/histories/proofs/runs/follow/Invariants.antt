@@ -1,4 +1,4 @@
-use Rattle.std.proofs.Common.{◌≡◌, length, take}
+use Rattle.std.proofs.Common.{length, take}
 use Rattle.catalogue.specs.Ledger.{Ledger}
 use Rattle.catalogue.specs.Table.{table_of}
 use Rattle.catalogue.specs.View.{view}

@@ -1,4 +1,4 @@
-use Rattle.std.proofs.Common.{◌≡◌, ℕ, ◌-◌, min, length, take, sym, refl, ap, ◌∙◌}
+use Rattle.std.proofs.Common.{◌-◌, length, take, refl}
 use Rattle.words.specs.Refusals.{catalogue_told, image_told, closing_told}
 use Rattle.catalogue.specs.Ledger as ledger
 use Rattle.histories.specs.declared.calls.Call.TheVariants.{WriteImage, Close, Recall}
