@@ -1,4 +1,5 @@
 pub mod Cells
+pub mod Cuts
 pub mod Direct
 pub mod Filled
 pub mod Trails

@@ -46,7 +46,7 @@ fn parent<C: Code + Drop>(
     requires enough_places { standing.now.width ≤ C.Truth.sort.width }
     ensures { MatchOption result ((p : ℕ) → has_line kind p standing.now.lines.now ≡ true → cell (sets_of C.Truth.sort table.now) top (place_of standing.now.kinds.now p) ≡ false) (λ p. (has_line kind p standing.now.lines.now ≡ true) × (cell (sets_of C.Truth.sort table.now) top (place_of standing.now.kinds.now p) ≡ true)) }
 {
-    for n in lines_before(standing, kind)..standing.lines.len() {
+    for n in lines_before(standing.lines, kind)..standing.lines.len() {
         let line = standing.lines[n];
         if line.child != kind {
             return None;

@@ -1,33 +1,39 @@
-use Rattle.std.proofs.Common.{arith}
+use Rattle.std.proofs.Common.{◌+◌, ◌-◌, ◌/◌, ◌<◌, map, length, arith}
 use Rattle.std.proofs.lemmas.List.{get_or-map, length-map}
-use Rattle.descent.specs.declared.line.Line.{Line}
-use Rattle.descent.specs.Order.{line_key}
-use Rattle.closing.proofs.Direct.{line_at, line_ends}
-use Rattle.closing.proofs.Filled.{serial_low, children_at}
+use Rattle.closing.proofs.Cuts.{before_middle, after_middle}
 use Rattle.closing.proofs.find.lines_before.Goals as goal
+
+pub loop-low-preserved-then-lines-middle : goal.loop-low-preserved-then-lines-middle
+loop-low-preserved-then-lines-middle c =
+    let xs = c.args.lines.now in
+    let l = c.loop-low in
+    let middle = l.low + (l.high - l.low) / 2 in
+    let within : middle < length xs = omega arith in
+    let at = get_or-map (λ k. k.child) xs middle (record { child = 0; parent = 0 }) 0 within in (
+      omega arith,
+      l.invariant.1,
+      before_middle (length xs) (map (λ k. k.child) xs) c.args.child middle c.requires within (omega arith),
+      l.invariant.3,
+    )
+
+pub loop-low-preserved : goal.loop-low-preserved
+loop-low-preserved c =
+    let xs = c.args.lines.now in
+    let l = c.loop-low in
+    let middle = l.low + (l.high - l.low) / 2 in
+    let within : middle < length xs = omega arith in
+    let at = get_or-map (λ k. k.child) xs middle (record { child = 0; parent = 0 }) 0 within in (
+      omega arith,
+      omega arith,
+      l.invariant.2,
+      after_middle (length xs) (map (λ k. k.child) xs) c.args.child middle c.requires (omega arith),
+    )
 
 pub returns : goal.returns
 returns c =
-    let st = c.args.standing.now in
-    let ls = st.lines.now in
-    let d : Line = record { child = 0; parent = 0 } in
-    let cut = c.count_below.ensures.cut st.ordered in
-    let long = length-map ls line_key in
-    let many = length-map ls (λ l. l.child) in
-    let within = cut.within in
+    let l = c.loop-low in
     record {
-      within = omega arith;
-      before =
-          λ a lt.
-          let key = get_or-map line_key ls a d 0 (omega arith) in
-          let child = children_at st a (omega arith) in
-          let low = cut.before a lt in
-          omega arith;
-      after =
-          λ a le lt.
-          let key = get_or-map line_key ls a d 0 (omega arith) in
-          let child = children_at st a (omega arith) in
-          let high = cut.after a le (omega arith) in
-          let small = serial_low st (line_at ls a).parent (line_ends st a (omega arith)).1 in
-          omega arith;
+      within = simp length-map (omega arith);
+      before = l.invariant.2;
+      after = λ a le lt. l.invariant.3 a (omega arith) (simp length-map at lt);
     }

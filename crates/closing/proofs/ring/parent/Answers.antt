@@ -7,6 +7,9 @@ use Rattle.closing.proofs.Direct.{line_at, line_ends, place-below}
 use Rattle.closing.proofs.Filled.{children_at, children_rise, parents_fail}
 use Rattle.closing.proofs.ring.parent.Goals as goal
 
+pub lines_before-n-requires : goal.lines_before-n-requires
+lines_before-n-requires g c = children_rise c.args.standing.now
+
 pub loop-n-init : goal.loop-n-init
 loop-n-init g c =
     let st = c.args.standing.now in

@@ -1,0 +1,39 @@
+use Rattle.std.proofs.Common.{◌+◌, ◌-◌, ◌/◌, ◌<◌, map, length, arith}
+use Rattle.std.proofs.lemmas.List.{get_or-map, length-map}
+use Rattle.closing.proofs.Cuts.{before_middle, after_middle}
+use Rattle.closing.proofs.find.kinds_before.Goals as goal
+
+pub loop-low-preserved-then-kinds-middle : goal.loop-low-preserved-then-kinds-middle
+loop-low-preserved-then-kinds-middle c =
+    let xs = c.args.kinds.now in
+    let l = c.loop-low in
+    let middle = l.low + (l.high - l.low) / 2 in
+    let within : middle < length xs = omega arith in
+    let at = get_or-map (λ k. k.serial) xs middle (record { serial = 0; place = 0 }) 0 within in (
+      omega arith,
+      l.invariant.1,
+      before_middle (length xs) (map (λ k. k.serial) xs) c.args.serial middle c.requires within (omega arith),
+      l.invariant.3,
+    )
+
+pub loop-low-preserved : goal.loop-low-preserved
+loop-low-preserved c =
+    let xs = c.args.kinds.now in
+    let l = c.loop-low in
+    let middle = l.low + (l.high - l.low) / 2 in
+    let within : middle < length xs = omega arith in
+    let at = get_or-map (λ k. k.serial) xs middle (record { serial = 0; place = 0 }) 0 within in (
+      omega arith,
+      omega arith,
+      l.invariant.2,
+      after_middle (length xs) (map (λ k. k.serial) xs) c.args.serial middle c.requires (omega arith),
+    )
+
+pub returns : goal.returns
+returns c =
+    let l = c.loop-low in
+    record {
+      within = simp length-map (omega arith);
+      before = l.invariant.2;
+      after = λ a le lt. l.invariant.3 a (omega arith) (simp length-map at lt);
+    }
