@@ -1,5 +1,5 @@
 use Rattle.std.proofs.Common.{◌+◌, ◌-◌, ◌/◌, ◌<◌, map, length, arith}
-use Rattle.std.proofs.lemmas.List.{get_or-map, length-map}
+use Rattle.std.proofs.lemmas.List.{get_or-map}
 use Rattle.closing.proofs.Cuts.{before_middle, after_middle}
 use Rattle.closing.proofs.find.kinds_before.Goals as goal
 
@@ -28,12 +28,3 @@ loop-low-preserved c =
       l.invariant.2,
       after_middle (length xs) (map (λ k. k.serial) xs) c.args.serial middle c.requires (omega arith),
     )
-
-pub returns : goal.returns
-returns c =
-    let l = c.loop-low in
-    record {
-      within = simp length-map (omega arith);
-      before = l.invariant.2;
-      after = λ a le lt. l.invariant.3 a (omega arith) (simp length-map at lt);
-    }

@@ -1,4 +1,4 @@
-use Rattle.std.proofs.Common.{◌<◌, ◌≤◌, length, sym, ◌∙◌, arith, rules}
+use Rattle.std.proofs.Common.{◌<◌, length, sym, ◌∙◌, arith}
 use Rattle.std.proofs.lemmas.List.{get_or-map, length-map}
 use Rattle.descent.specs.Lines.{serials_of}
 use Rattle.descent.proofs.Proper.{rising_upto}
@@ -18,11 +18,6 @@ bounds-standing-kinds_before c =
     let e = cut_at 0 (serials_of st.kinds.now) c.args.serial c.kinds_before.result q.0 st.rising c.kinds_before.ensures q.1 q.2 in
     let lt : q.0 < length st.kinds.now = simp length-map at q.1 in
     omega arith
-
-pub offset_bounds-standing-kinds_before : goal.offset_bounds-standing-kinds_before
-offset_bounds-standing-kinds_before c =
-    let n : c.kinds_before.result ≤ length c.args.standing.now.kinds.now = simp length-map at c.kinds_before.ensures.within in
-    search rules
 
 pub returns : goal.returns
 returns c =
