@@ -2,7 +2,7 @@ use Rattle.std.proofs.Common.{◌<◌, length, sym, ◌∙◌, arith}
 use Rattle.std.proofs.lemmas.List.{get_or-map, length-map}
 use Rattle.descent.specs.Lines.{serials_of}
 use Rattle.descent.proofs.Proper.{rising_upto}
-use Rattle.closing.proofs.Cuts.{cut_at}
+use Rattle.search.proofs.Halving.{cut_at}
 use Rattle.closing.proofs.Direct.{stands-place}
 use Rattle.closing.proofs.find.place_of.Goals as goal
 
