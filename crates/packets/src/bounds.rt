@@ -2,9 +2,9 @@
 ghost use Rattle.std.specs.Prelude.{◌≡◌, ℕ, ◌≤◌, length, slice_index};
 
 #[derive(Clone, Copy)]
-pub(crate) struct Bounds {
-    pub(crate) at: [u16; 512],
-    pub(crate) len: usize,
+pub struct Bounds {
+    pub at: [u16; 512],
+    pub len: usize,
     ghost whole: { length at ≡ 512 },
     ghost few: { len ≤ 512 },
     ghost clear: { (k : ℕ) → len ≤ k → slice_index at k ≡ 0 },

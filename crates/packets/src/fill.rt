@@ -5,7 +5,7 @@ ghost use Rattle.packets.specs.Packets.{held};
 use super::bounds::Bounds;
 
 impl Bounds {
-    pub(crate) fn empty() -> Bounds
+    pub fn empty() -> Bounds
         ensures items { held result ≡ [] }
         ensures count { result.len ≡ 0 }
     {
@@ -15,7 +15,7 @@ impl Bounds {
         }
     }
 
-    pub(crate) fn push(&mut self, bound: u16)
+    pub fn push(&mut self, bound: u16)
         requires { self.old.len < 512 }
         ensures items { held self.new ≡ held self.old ++ bound ∷ [] }
         ensures count { self.new.len ≡ self.old.len + 1 }
@@ -24,7 +24,7 @@ impl Bounds {
         self.len += 1;
     }
 
-    pub(crate) fn push_if(&mut self, wanted: bool, bound: u16)
+    pub fn push_if(&mut self, wanted: bool, bound: u16)
         requires { self.old.len + (if wanted then 1 else 0) ≤ 512 }
         ensures items { held self.new ≡ held self.old ++ (if wanted then bound ∷ [] else []) }
         ensures count { self.new.len ≡ self.old.len + (if wanted then 1 else 0) }
@@ -35,7 +35,7 @@ impl Bounds {
     }
 
     // Adds the bounds of the other row from one index up to another.
-    pub(crate) fn copy(&mut self, other: &Bounds, from: usize, to: usize)
+    pub fn copy(&mut self, other: &Bounds, from: usize, to: usize)
         requires { (from ≤ to) × ((to ≤ other.now.len) × (self.old.len + (to - from) ≤ 512)) }
         ensures items { held self.new ≡ held self.old ++ take (to - from) (drop from (held other.now)) }
         ensures count { self.new.len ≡ self.old.len + (to - from) }

@@ -1,5 +1,5 @@
 // Setting and unsetting runs of places, on which meet, join, put and take stand, and the complement.
-ghost use Rattle.std.specs.Prelude.{◌≡◌, not, ◌&&◌, ◌||◌, leb, if◌then◌else◌, nat_le, nat_lt};
+ghost use Rattle.std.specs.Prelude.{◌≡◌, not, ◌&&◌, ◌||◌, if◌then◌else◌, nat_le, nat_lt};
 ghost use Rattle.packets.specs.Bounds.{count_below};
 ghost use Rattle.packets.specs.Packets.{bounds_of, packets_have};
 ghost use Rattle.codes.specs.Sorts.{Agree};
@@ -29,7 +29,7 @@ impl Packets {
     // The places from start on and below end are all in or all out, by value; the others are as they were.
     // A bound stands at either end only where the places beside it differ, so that runs that touch are one packet.
     fn with_run(self, start: usize, end: usize, value: bool) -> Packets
-        ensures { Agree 512 (packets_have result) (λ p. (if leb start p && nat_lt p end then value else packets_have self p)) }
+        ensures { Agree 512 (packets_have result) (λ p. (if nat_le start p && nat_lt p end then value else packets_have self p)) }
     {
         let stop = end.min(PLACES);
         if start >= stop {

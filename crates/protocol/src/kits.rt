@@ -2,7 +2,7 @@
 ghost use Rattle.std.specs.Prelude.{◌≡◌, ℕ, ◌+◌, ◌<◌, ◌≤◌, true, false, ◌⊎◌, length, slice_index};
 ghost use Rattle.words.specs.declared.word.WordKind.TheVariants.{AnswerHead};
 ghost use Rattle.words.specs.Words.{is_kind, low_bits};
-ghost use Rattle.protocol.specs.Kits.{before_head, kit_length};
+ghost use Rattle.protocol.specs.Kits.{kit_length};
 
 use words::{WordKind, is_kind, low_bits};
 
@@ -16,10 +16,15 @@ pub fn kit_length(words: &[u32]) -> usize
     ensures counted { is_kind AnswerHead (slice_index words.now 0) ≡ true → result ≤ low_bits (slice_index words.now 0) + 1 }
     ensures stops { result < length words.now → (is_kind AnswerHead (slice_index words.now result) ≡ true) ⊎ ((is_kind AnswerHead (slice_index words.now 0) ≡ true) × (result ≡ low_bits (slice_index words.now 0) + 1)) }
 {
-    let [_, rest @ ..] = words else {
+    if words.is_empty() {
         return 0;
-    };
-    (1 + before_head(rest)).min(most_words(words))
+    }
+    let most = most_words(words);
+    let mut end = 1;
+    while end < words.len() && end < most && !is_kind(words[end], WordKind::AnswerHead) {
+        end += 1;
+    }
+    end
 }
 
 // As many words as the head of the first kit allows it.
@@ -34,16 +39,4 @@ fn most_words(words: &[u32]) -> usize
     } else {
         words.len()
     }
-}
-
-// How many words come before the next head.
-fn before_head(words: &[u32]) -> usize
-    ensures value { result ≡ before_head words.now }
-    ensures within { result ≤ length words.now }
-{
-    let mut end = 0;
-    while end < words.len() && !is_kind(words[end], WordKind::AnswerHead) {
-        end += 1;
-    }
-    end
 }
