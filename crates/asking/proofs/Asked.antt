@@ -1,5 +1,5 @@
 -- What an evaluated question leaves, where the table belongs to the catalogue.
-use Rattle.std.proofs.Common.{◌≡◌, ℕ, ◌+◌, ◌≤◌, Bool, true, ◌&&◌, ltb, List, [], ◌∷◌, ◌++◌, map, length, get_or, drop, refl, ap, ◌∙◌, subst, ap₂, arith}
+use Rattle.std.proofs.Common.{◌≡◌, ℕ, ◌+◌, Bool, true, ◌&&◌, ltb, List, [], ◌∷◌, ◌++◌, map, length, get_or, drop, refl, ap, ◌∙◌, subst, ap₂, arith}
 use Rattle.std.proofs.lemmas.List.{length-map, drop_at}
 use Rattle.std.proofs.lemmas.Bool.{lt-ltb}
 use Rattle.descent.specs.declared.kind.Kind.{Kind}
@@ -19,18 +19,9 @@ use Rattle.catalogue.specs.View.{view}
 use Rattle.asking.specs.Asking.{AsPlaces}
 use Rattle.asking.specs.Decoding.{decoded}
 use Rattle.asking.specs.Naming.{seat, row_places, fits_name}
-use Rattle.asking.proofs.Seats.{seat_at, view_placed, view_few}
+use Rattle.asking.proofs.Seats.{seat_at, view_placed}
 use Rattle.asking.proofs.Uppermost.{decoded_names}
 use Rattle.asking.proofs.Values.{named_descends, holds_set, value_as_places}
-
--- the kinds that are lent are no more than there are places
-pub shown_few : (c : Catalogue) (kinds : List Kind) → serials_of kinds ≡ (view c).book.kinds →
-    (length kinds ≤ (view c).book.wide) × (length kinds ≤ 512)
-shown_few c kinds e =
-    let few = view_few c in
-    let long = length-map kinds (λ k. k.serial) in
-    let same = ap length e in
-    (omega arith, omega arith)
 
 module _ {S R : Type 0} (s : Sort S R) (c : Catalogue) (table : List R) (belongs : Belongs (view c) (table_of s table)) (shut : (view c).book.closed ≡ true) where
   -- a row that is read as the question's value is read as its set

@@ -1,10 +1,12 @@
 -- Sets that share no place, and the places below covered ones, place by place.
-use Rattle.std.proofs.Common.{◌≡◌, ℕ, zero, suc, ◌+◌, ◌<◌, Bool, true, false, not, ◌&&◌, ◌||◌, eqb, ltb, List, [], ◌∷◌, ◌++◌, length, get_or, take, Decides, sym, refl, ap, ◌∙◌, ap₂, inl, inr, arith}
+use Rattle.std.proofs.Common.{◌≡◌, ℕ, zero, suc, ◌+◌, ◌<◌, Bool, true, false, not, ◌&&◌, ◌||◌, eqb, ltb, List, length, get_or, take, Some, None, Option, is_none, Decides, sym, refl, ap, ◌∙◌, ap₂, inl, inr, arith}
 use mathlib.Core.Path.{fun_ext}
+use Rattle.std.proofs.Math.Bool.{or-false}
 use Rattle.std.proofs.lemmas.List.{get_or-map, take_more}
+use Rattle.std.proofs.lemmas.List.Recursion.{or_push}
 use Rattle.std.proofs.lemmas.Bool.{not-true, not_from_false, both_ways, cases_Bool, cases_lt, le-ltb}
 use Rattle.std.proofs.lemmas.Bool.Decides.{Decides-below_and}
-use Rattle.codes.specs.Sorts.{Sort, Agree}
+use Rattle.codes.specs.Sorts.{Sort, Agree, Next}
 use Rattle.closing.specs.Tables.{sets_of, cell}
 use Rattle.asking.specs.Decoding.{apart, covered_at, some_place, overlies, below_covered, chosen, uppermost_at}
 
@@ -14,12 +16,17 @@ apart_decides w f g =
     Decides-below_and (λ p. not (f p && g p)) (λ p. (f p && g p) ≡ false) (λ n. apart n f g)
     (λ p. (not-true (f p && g p), not_from_false (f p && g p))) refl (λ _. refl) w
 
-pub apart-not : (w : ℕ) (f g : ℕ → Bool) (q : ℕ) → q < w → (f q && g q) ≡ true → apart w f g ≡ false
+apart-not : (w : ℕ) (f g : ℕ → Bool) (q : ℕ) → q < w → (f q && g q) ≡ true → apart w f g ≡ false
 apart-not w f g q h e =
     elim (cases_Bool (apart w f g)) [
       | inl t ↦ absurd (both_ways (f q && g q) ((apart_decides w f g).0 t q h) e)
       | inr t ↦ t
     ]
+
+-- so it tells whether the sets, met, have a place
+pub apart_met : (w : ℕ) (f g met : ℕ → Bool) (r : Option ℕ) → Agree w met (λ p. f p && g p) → Next w met 0 r → is_none r ≡ apart w f g
+apart_met w f g met None both none = sym ((apart_decides w f g).1 (λ p h. sym (both p h) ∙ none p (omega arith) h))
+apart_met w f g met (Some q) both found = sym (apart-not w f g q found.1 (sym (both q found.1) ∙ found.2))
 
 -- and looks at no place from w on
 pub apart_alike : (w : ℕ) (f f' g g' : ℕ → Bool) → Agree w f f' → Agree w g g' → apart w f g ≡ apart w f' g'
@@ -29,22 +36,10 @@ apart_alike (suc w) f f' g g' same alike =
     ap₂ (λ a b. not a && b) here
     (apart_alike w f f' g g' (λ p h. same p (omega arith)) (λ p h. alike p (omega arith)))
 
-or_false : (b : Bool) → (b || false) ≡ b
-or_false true = refl
-or_false false = refl
-
-or_assoc : (a b c : Bool) → (a || (b || c)) ≡ ((a || b) || c)
-or_assoc true b c = refl
-or_assoc false b c = refl
-
-some_push : (test : ℕ → Bool) (qs : List ℕ) (q : ℕ) → some_place test (qs ++ q ∷ []) ≡ (some_place test qs || test q)
-some_push test [] q = or_false (test q)
-some_push test (r ∷ qs) q = ap (λ b. test r || b) (some_push test qs q) ∙ or_assoc (test r) (some_place test qs) (test q)
-
 -- one place more
 pub some_more : (test : ℕ → Bool) (qs : List ℕ) (i : ℕ) → i < length qs →
     some_place test (take (i + 1) qs) ≡ (some_place test (take i qs) || test (get_or qs i 0))
-some_more test qs i lt = ap (some_place test) (take_more qs i 0 lt) ∙ some_push test (take i qs) (get_or qs i 0)
+some_more test qs i lt = ap (some_place test) (take_more qs i 0 lt) ∙ or_push (some_place test) test refl (λ _ _. refl) (take i qs) (get_or qs i 0)
 
 -- what a row of the table is read as
 pub row_is : {S R : Type 0} (s : Sort S R) (table : List R) (q : ℕ) (row : R) → q < length table → row ≡ get_or table q row →
@@ -54,9 +49,6 @@ row_is s table q row inside is =
 
 module _ {S R : Type 0} (s : Sort S R) (table : List R) (outside : ℕ → Bool) (places : List ℕ) (i : ℕ) (row : R) (q : ℕ)
     (lt : i < length places) (here : get_or places i 0 ≡ q) (inside : q < length table) (is : row ≡ get_or table q row) where
-  covered_is : covered_at s.width (sets_of s table) outside q ≡ apart s.width (s.reads row) outside
-  covered_is = ap (λ f. apart s.width f outside) (row_is s table q row inside is)
-
   turn : (p : ℕ) → below_covered s.width (sets_of s table) outside (take (i + 1) places) p
       ≡ (below_covered s.width (sets_of s table) outside (take i places) p
       || (apart s.width (s.reads row) outside && (s.reads row p && not (eqb p q))))
@@ -80,7 +72,7 @@ module _ {S R : Type 0} (s : Sort S R) (table : List R) (outside : ℕ → Bool)
   below_left e p =
       turn p
       ∙ ap (λ b. below_covered s.width (sets_of s table) outside (take i places) p || (b && (s.reads row p && not (eqb p q)))) e
-      ∙ or_false (below_covered s.width (sets_of s table) outside (take i places) p)
+      ∙ or-false (below_covered s.width (sets_of s table) outside (take i places) p)
 
 -- what is chosen by sets that are right below w is what is uppermost
 pub chosen_alike : (w : ℕ) (rows : List (ℕ → Bool)) (out outside below : ℕ → Bool) (places : List ℕ) → Agree w out outside →

@@ -1,7 +1,9 @@
 -- The places of a catalogue's kinds, and the places that are put into a value.
-use Rattle.std.proofs.Common.{◌≡◌, ℕ, zero, suc, ◌<◌, ◌≤◌, Bool, true, false, ◌||◌, eqb, List, [], ◌∷◌, map, length, get_or, Ok, Err, vec_items, Result, sym, refl, ap, ◌∙◌, inl, inr, arith}
+use Rattle.std.proofs.Common.{◌≡◌, ℕ, zero, suc, ◌<◌, Bool, ◌||◌, eqb, List, [], ◌∷◌, map, length, get_or, Ok, Err, vec_items, Result, sym, ap, ◌∙◌, arith}
 use Rattle.std.proofs.lemmas.List.{length-map}
-use Rattle.std.proofs.lemmas.Bool.{cond-true, cond-false, eq-eqb, ne_eqb, cases_eq}
+use Rattle.std.proofs.lemmas.Bool.{cond-true, cond-false, eq-eqb, ne_eqb}
+use Rattle.std.proofs.Math.Bool.{or-false}
+use Rattle.std.proofs.lemmas.Bool.Decides.{nat_tests}
 use Rattle.words.specs.declared.refusal.CodeFault.{CodeFault}
 use Rattle.codes.specs.Sorts.{Sort, Agree, Changed}
 use Rattle.descent.specs.Lines.{Distinct}
@@ -10,7 +12,7 @@ use Rattle.descent.proofs.Proper.{proper_placed}
 use Rattle.catalogue.specs.declared.state.Catalogue.{Catalogue}
 use Rattle.catalogue.specs.View.{view}
 use Rattle.catalogue.proofs.Seating.{seated_kinds}
-use Rattle.catalogue.proofs.KindEdits.{seats_count}
+use Rattle.catalogue.proofs.Shown.{view_seated, view_paired, standing_held}
 use Rattle.asking.specs.Naming.{seat}
 
 -- the place of the kind at an index
@@ -26,45 +28,18 @@ seat_at (k ∷ ks) (p ∷ ps) (suc b) x apart paired h is =
 -- the kinds of a catalogue are placed
 pub view_placed : (c : Catalogue) → Placed (view c).book.wide (view c).book.kinds (view c).places (view c).book.lines
 view_placed c =
-    let ks = vec_items c.kinds in
-    let seats = seated_kinds c.width (map (λ k. k.place) ks) (vec_items c.free) c.seats in
-    let many = length-map ks (λ k. k.place) in
-    let long = length-map ks (λ k. k.serial) in
-    proper_placed c.width (view c).book.kinds (view c).places (vec_items c.lines) (omega arith) c.rising seats.0 seats.1 c.joins
+    let v = view c in
+    let seats = seated_kinds v.book.wide v.places v.free (view_seated c) in
+    let held = standing_held c in
+    proper_placed v.book.wide v.book.kinds v.places v.book.lines (view_paired c) held.rising seats.0 seats.1 held.joins
 
--- and no more than there are places
-pub view_few : (c : Catalogue) → (length (view c).book.kinds ≤ (view c).book.wide) × ((view c).book.wide ≤ 512)
-view_few c =
-    let ks = vec_items c.kinds in
-    let seats = seats_count c.width (map (λ k. k.place) ks) (vec_items c.free) c.seats in
-    let many = length-map ks (λ k. k.place) in
-    let long = length-map ks (λ k. k.serial) in
-    (omega arith, c.wide.1)
+swap : (p q : ℕ) (b : Bool) → (eqb p q || b) ≡ (b || eqb q p)
+swap p q b = grind (arith, nat_tests)
 
 -- below the width it makes no difference whether the place was refused
 pub put_any : {S R : Type 0} (s : Sort S R) (old new : S) (place : ℕ) (r : Result (Unit {0}) CodeFault) →
     Changed s old new place (λ p. eqb p place || s.means old p) r → Agree s.width (s.means new) (λ p. s.means old p || eqb place p)
-put_any s old new place (Ok _) h p lt =
-    h.1 p lt ∙ swap (s.means old p)
-  where
-    swap : (b : Bool) → (eqb p place || b) ≡ (b || eqb place p)
-    swap b =
-        elim (cases_eq p place) [
-          | inl e ↦ let here = eq-eqb p place e in let there = eq-eqb place p (sym e) in rw (here, there) (or-true b)
-          | inr ne ↦ let here = ne_eqb p place ne in let there = ne_eqb place p (λ e. ne (sym e)) in rw (here, there) (or-none b)
-        ]
-      where
-        or-true : (c : Bool) → true ≡ (c || true)
-        or-true true = refl
-        or-true false = refl
-
-        or-none : (c : Bool) → c ≡ (c || false)
-        or-none true = refl
-        or-none false = refl
+put_any s old new place (Ok _) h p lt = h.1 p lt ∙ swap p place (s.means old p)
 put_any s old new place (Err _) h p lt =
     let there = ne_eqb place p (λ e. omega (arith, h.0)) in
-    ap (λ v. s.means v p) h.1 ∙ rw there (or-none (s.means old p))
-  where
-    or-none : (c : Bool) → c ≡ (c || false)
-    or-none true = refl
-    or-none false = refl
+    ap (λ v. s.means v p) h.1 ∙ rw there (sym (or-false (s.means old p)))

@@ -12,7 +12,7 @@ use Rattle.descent.specs.Descent.{descends}
 use Rattle.descent.specs.Closure.{Placed}
 use Rattle.descent.specs.Coverage.{Covered, covered, each_kind, uppermost}
 use Rattle.descent.proofs.Descent.{descends_decided}
-use Rattle.descent.proofs.Lines.{stands_at, stands_position, same_position}
+use Rattle.descent.proofs.Lines.{stands_at, stands_position, same_position, place_at}
 use Rattle.descent.proofs.Coverage.{covered_decided}
 use Rattle.closing.specs.Tables.{Filled, cell, sets_of}
 use Rattle.codes.specs.Sorts.{Sort}
@@ -31,8 +31,7 @@ some_each t u (k ∷ ks) (p ∷ ps) paired h =
     ap₂ (λ a b. a || b) (h 0 (omega arith)) (some_each t u ks ps (omega arith) (λ a l. h (suc a) (omega arith))) ∙ both (u k) (each_kind u ks)
   where
     both : (x y : Bool) → (not x || not y) ≡ not (x && y)
-    both true y = refl
-    both false y = refl
+    both x y = grind arith
 
 -- the names of kinds whose places pass are the names of those whose serials pass
 names_kept : (t u : ℕ → Bool) (kinds : List Kind) → All (λ k. t k.place ≡ u k.serial) kinds →
@@ -126,14 +125,10 @@ module _ (w : ℕ) (ks ps : List ℕ) (ls : List Line) (rows : List (ℕ → Boo
       ∙ ap (λ y. (y && covered ks ls set k) && each_kind (λ m. not (covered ks ls set m && descends ls k m) || eqb m k) ks) (sym here)
     where
       twice : (x y : Bool) → (x && not (not y)) ≡ ((true && x) && y)
-      twice true true = refl
-      twice true false = refl
-      twice false y = refl
+      twice x y = grind arith
 
       turn : (x y z : Bool) → (x && (y && not z)) ≡ not (not (x && y) || z)
-      turn true true z = refl
-      turn true false z = refl
-      turn false y z = refl
+      turn x y z = grind arith
 
       over : (b : ℕ) → b < length ks →
           overlies w rows (λ q. not (f q)) (get_or ps a 0) (get_or ps b 0)
@@ -154,7 +149,7 @@ decoded_names s ks ps ls kinds table row set serials places placed filled sets =
     (All-from_get_or _ kinds (record { serial = 0; place = 0 }) (λ a h.
     let none : Kind = record { serial = 0; place = 0 } in
     let within : a < length ks = omega (arith, h, length-map kinds (λ k. k.serial), ap length serials) in
-    let place_is : (get_or kinds a none).place ≡ get_or ps a 0 = sym (get_or-map (λ k. k.place) kinds a none 0 h) ∙ ap (λ xs. get_or xs a 0) places in
+    let place_is : (get_or kinds a none).place ≡ get_or ps a 0 = sym (place_at kinds a none h).1 ∙ ap (λ xs. get_or xs a 0) places in
     let serial_is : (get_or kinds a none).serial ≡ get_or ks a 0 = sym (get_or-map (λ k. k.serial) kinds a none 0 h) ∙ ap (λ xs. get_or xs a 0) serials in
     ap (uppermost_at s.width (sets_of s table) (λ p. not (s.reads row p)) ps) place_is
     ∙ uppermost_same s.width ks ps ls (sets_of s table) placed filled (s.reads row) set sets a within

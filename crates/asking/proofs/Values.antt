@@ -1,10 +1,9 @@
 -- What a question means by places is what it means by lines.
-use Rattle.std.proofs.Common.{◌≡◌, ℕ, ◌<◌, Bool, true, false, ◌&&◌, ◌||◌, List, [], ◌∷◌, length, get_or, sym, refl, ap, ◌∙◌, ap₂, inl, inr, arith}
+use Rattle.std.proofs.Common.{◌≡◌, ℕ, ◌<◌, Bool, true, false, ◌&&◌, List, [], ◌∷◌, length, get_or, sym, refl, ap, ◌∙◌, ap₂, inl, inr, arith}
 use mathlib.Core.Path.{fun_ext}
 use Rattle.std.specs.List.{AllByRecursion as All}
 use Rattle.std.proofs.lemmas.Bool.{both_ways, cases_Bool}
 use Rattle.words.specs.declared.word.WordKind.{WordKind}
-use Rattle.words.specs.declared.word.WordKind.TheVariants.{Unused, Name, And, Or, Not, All as AllKinds, Nothing, AnswerHead, ImageHead, Child, Parent, RingHead, ImageEnd}
 use Rattle.words.specs.Words.{kind_number, low_bits, rule_of}
 use Rattle.descent.specs.declared.line.Line.{Line}
 use Rattle.descent.specs.Lines.{stands}
@@ -27,24 +26,7 @@ stands_above placed (up {k} {p} {m} h below) st = stands_above placed below (pla
 
 -- where no entry has a place, and neither all nor a name has it, no word gives it to one
 none_applied : (kind : WordKind) (n : ℕ) (entries : List Bool) → All (λ b. b ≡ false) entries → All (λ b. b ≡ false) (applied (λ _. false) false kind n entries)
-none_applied Name n es h = (refl, h)
-none_applied And n [] h = h
-none_applied And n (b ∷ []) h = h
-none_applied And n (b ∷ a ∷ es) h = (ap (λ x. x && b) h.1.0, h.1.1)
-none_applied Or n [] h = h
-none_applied Or n (b ∷ []) h = h
-none_applied Or n (b ∷ a ∷ es) h = (ap₂ (λ x y. x || y) h.1.0 h.0, h.1.1)
-none_applied Not n [] h = h
-none_applied Not n (a ∷ es) h = (refl, h.1)
-none_applied AllKinds n es h = (refl, h)
-none_applied Nothing n es h = (refl, h)
-none_applied Unused n es h = h
-none_applied AnswerHead n es h = h
-none_applied ImageHead n es h = h
-none_applied Child n es h = h
-none_applied Parent n es h = h
-none_applied RingHead n es h = h
-none_applied ImageEnd n es h = h
+none_applied kind n entries h = grind arith
 
 none_holds : (words : List ℕ) (entries : List Bool) → All (λ b. b ≡ false) entries → holds (λ _. false) false entries words ≡ false
 none_holds [] [] h = refl

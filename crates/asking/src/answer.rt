@@ -9,8 +9,8 @@ ghost use Rattle.asking.specs.Asking.{AsPlaces, Kept};
 
 use super::checks::check_ask;
 use super::decode::decode;
-use super::naming::all_kinds;
-use super::row_names::RowNames;
+use super::naming::{RowNames, all_kinds};
+use super::rows::Rows;
 use catalogue::Catalogue;
 use codes::{Code, Truth};
 use questions::evaluate;
@@ -34,8 +34,7 @@ pub fn ask<C: Code + Drop>(
     check_ask(catalogue, table.len(), answer.len(), working.len())?;
     let standing = catalogue.standing();
     let names = RowNames::<C> {
-        catalogue,
-        table,
+        rows: Rows { catalogue, table },
         all: all_kinds::<C>(&standing),
     };
     evaluate::<C, RowNames<'_, '_, C>>(words, &names, working)?;

@@ -1,7 +1,7 @@
 // What is checked before a question is looked at: the lists that are handed in, and that the catalogue is closed.
-ghost use Rattle.std.specs.Prelude.{not};
+ghost use Rattle.std.specs.Prelude.{not, [], ◌∷◌};
 ghost use Rattle.words.specs.declared.refusal.Part.TheVariants as part;
-ghost use Rattle.words.specs.Refusals.{Says, question_told, refusal, refuse_if};
+ghost use Rattle.words.specs.Refusals.{Says, question_told, refusal, refuse_if, first_of, list_refusal};
 ghost use Rattle.catalogue.specs.View.{view};
 ghost use Rattle.asking.specs.Asking.{ask_refusal, fit_refusal};
 
@@ -9,9 +9,13 @@ use catalogue::Catalogue;
 use questions::MAX_ENTRIES;
 use words::{QuestionFault, need};
 
-fn check_closed(catalogue: &Catalogue) -> Result<(), QuestionFault>
-    ensures { Says question_told result (refuse_if (not (view catalogue.now).book.closed) (refusal 12 0 part.Question)) }
+// The lists come as their lengths, beside the catalogue: `Rows`, which holds both, can be made only once they are checked.
+
+// What every question needs: working values, and a closed catalogue.
+fn check_ready(catalogue: &Catalogue, working: usize) -> Result<(), QuestionFault>
+    ensures { Says question_told result (first_of (list_refusal working 32 ∷ refuse_if (not (view catalogue.now).book.closed) (refusal 12 0 part.Question) ∷ [])) }
 {
+    need(working, MAX_ENTRIES)?;
     if !catalogue.is_closed() {
         return Err(QuestionFault::Open);
     }
@@ -28,8 +32,7 @@ pub(super) fn check_ask(
 {
     need(table, catalogue.width())?;
     need(answer, catalogue.width() + 1)?;
-    need(working, MAX_ENTRIES)?;
-    check_closed(catalogue)
+    check_ready(catalogue, working)
 }
 
 pub(super) fn check_fit(
@@ -40,6 +43,5 @@ pub(super) fn check_fit(
     ensures { Says question_told result (fit_refusal (view catalogue.now).book table working) }
 {
     need(table, catalogue.width())?;
-    need(working, MAX_ENTRIES)?;
-    check_closed(catalogue)
+    check_ready(catalogue, working)
 }

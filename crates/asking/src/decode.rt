@@ -12,16 +12,13 @@ use codes::{Code, Truth};
 use descent::Standing;
 use words::{WordKind, make_word};
 
-// Whether no place of the row lies outside.
-fn is_covered<C: Code + Drop>(row: C::Row, outside: &C) -> bool
-    ensures { result ≡ apart C.Truth.sort.width (C.Truth.sort.reads row) (C.Truth.sort.means outside.now) }
-{
-    let mut left = C::read(row);
-    left.meet(outside);
-    match left.next(0) {
-        None => true,
-        Some(_) => false,
-    }
+// What stands, its table, and the places outside a question's set.
+#[derive(Drop)]
+struct Decoder<'a, 'b, C: Truth> {
+    standing: &'a Standing<'a>,
+    table: &'b [C::Row],
+    outside: C,
+    ghost rows: { standing.now.width ≤ length table.now },
 }
 
 // Joins the row without the kind's own place.
@@ -33,50 +30,57 @@ fn join_others<C: Code + Drop>(below: &mut C, row: C::Row, place: usize)
     below.join(&others);
 }
 
-// The places of the kinds that lie below another covered kind.
-fn lying_below<C: Code + Drop>(standing: &Standing<'_>, table: &[C::Row], outside: &C) -> C
-    requires { standing.now.width ≤ length table.now }
-    ensures { Agree C.Truth.sort.width (C.Truth.sort.means result) (below_covered C.Truth.sort.width (sets_of C.Truth.sort table.now) (C.Truth.sort.means outside.now) (places_of standing.now.kinds.now)) }
-{
-    let mut below = C::empty();
-    for kind in standing.kinds {
-        let row = table[kind.place];
-        if is_covered::<C>(row, outside) {
-            join_others::<C>(&mut below, row, kind.place);
-        }
+impl<'a, 'b, C: Code + Drop> Decoder<'a, 'b, C> {
+    // Whether no place of the row lies outside.
+    fn is_covered(&self, row: C::Row) -> bool
+        ensures { result ≡ apart C.Truth.sort.width (C.Truth.sort.reads row) (C.Truth.sort.means self.now.outside) }
+    {
+        let mut left = C::read(row);
+        left.meet(&self.outside);
+        left.next(0).is_none()
     }
-    below
-}
 
-// Whether the kind with this row and place is covered, and not one of those below.
-fn is_chosen<C: Code + Drop>(row: C::Row, place: usize, outside: &C, below: &C) -> bool
-    ensures { result ≡ (apart C.Truth.sort.width (C.Truth.sort.reads row) (C.Truth.sort.means outside.now) && not (nat_lt place C.Truth.sort.width && C.Truth.sort.means below.now place)) }
-{
-    is_covered::<C>(row, outside) && !below.has(place)
-}
-
-// Writes the names of the chosen kinds behind the place of a head, and tells how many.
-fn write_names<C: Code + Drop>(
-    standing: &Standing<'_>,
-    table: &[C::Row],
-    outside: &C,
-    below: &C,
-    answer: &mut [u32],
-) -> usize
-    requires rows { standing.now.width ≤ length table.now }
-    requires room { length standing.now.kinds.now + 1 ≤ length answer.old }
-    requires few { length standing.now.kinds.now ≤ 512 }
-    ensures count { result ≡ length (names_of (chosen C.Truth.sort.width (sets_of C.Truth.sort table.now) (C.Truth.sort.means outside.now) (C.Truth.sort.means below.now)) standing.now.kinds.now) }
-    ensures list { answer.new ≡ paste answer.old 1 (names_of (chosen C.Truth.sort.width (sets_of C.Truth.sort table.now) (C.Truth.sort.means outside.now) (C.Truth.sort.means below.now)) standing.now.kinds.now) result }
-{
-    let mut count = 0;
-    for kind in standing.kinds {
-        if is_chosen::<C>(table[kind.place], kind.place, outside, below) {
-            answer[1 + count] = make_word(WordKind::Name, kind.serial);
-            count += 1;
+    // The places of the kinds that lie below another covered kind.
+    #[tactic(auto, using(crate::proofs::Written::place_within))]
+    fn lying_below(&self) -> C
+        ensures { Agree C.Truth.sort.width (C.Truth.sort.means result) (below_covered C.Truth.sort.width (sets_of C.Truth.sort self.now.table.now) (C.Truth.sort.means self.now.outside) (places_of self.now.standing.now.kinds.now)) }
+    {
+        let mut below = C::empty();
+        for kind in self.standing.kinds {
+            let row = self.table[kind.place];
+            if self.is_covered(row) {
+                join_others::<C>(&mut below, row, kind.place);
+            }
         }
+        below
     }
-    count
+
+    // Whether the kind with this row and place is covered, and not one of those below.
+    fn is_chosen(&self, row: C::Row, place: usize, below: &C) -> bool
+        ensures { result ≡ (apart C.Truth.sort.width (C.Truth.sort.reads row) (C.Truth.sort.means self.now.outside) && not (nat_lt place C.Truth.sort.width && C.Truth.sort.means below.now place)) }
+    {
+        self.is_covered(row) && !below.has(place)
+    }
+
+    // Writes the names of the chosen kinds behind the place of a head, and tells how many.
+    #[tactic(auto, using(crate::proofs::Written::place_within))]
+    fn write_names(&self, below: &C, answer: &mut [u32]) -> usize
+        requires { length self.now.standing.now.kinds.now + 1 ≤ length answer.old }
+        ensures few { result ≤ length self.now.standing.now.kinds.now }
+        ensures count { result ≡ length (names_of (chosen C.Truth.sort.width (sets_of C.Truth.sort self.now.table.now) (C.Truth.sort.means self.now.outside) (C.Truth.sort.means below.now)) self.now.standing.now.kinds.now) }
+        ensures list { answer.new ≡ paste answer.old 1 (names_of (chosen C.Truth.sort.width (sets_of C.Truth.sort self.now.table.now) (C.Truth.sort.means self.now.outside) (C.Truth.sort.means below.now)) self.now.standing.now.kinds.now) result }
+    {
+        // Counted by hand: the one stack would speak of what it holds, and not of the answer, and of a chain that writes through its
+        // closure nothing is known.
+        let mut count = 0;
+        for kind in self.standing.kinds {
+            if self.is_chosen(self.table[kind.place], kind.place, below) {
+                answer[1 + count] = make_word(WordKind::Name, kind.serial);
+                count += 1;
+            }
+        }
+        count
+    }
 }
 
 // Writes the answer that the set decodes to, and tells how many words it has. What is not covered is left out here, once.
@@ -88,15 +92,19 @@ pub(super) fn decode<C: Code + Drop>(
 ) -> usize
     requires rows { standing.now.width ≤ length table.now }
     requires room { length standing.now.kinds.now + 1 ≤ length answer.old }
-    requires few { length standing.now.kinds.now ≤ 512 }
     ensures count { result ≡ length (decoded C.Truth.sort standing.now.kinds.now table.now set) + 1 }
     ensures list { answer.new ≡ word_of AnswerHead (length (decoded C.Truth.sort standing.now.kinds.now table.now set)) ∷ decoded C.Truth.sort standing.now.kinds.now table.now set ++ drop result answer.old }
     ensures within { result ≤ length standing.now.kinds.now + 1 }
 {
     let mut outside = C::read(set);
     outside.complement();
-    let below = lying_below::<C>(standing, table, &outside);
-    let count = write_names::<C>(standing, table, &outside, &below, answer);
+    let decoder = Decoder::<C> {
+        standing,
+        table,
+        outside,
+    };
+    let below = decoder.lying_below();
+    let count = decoder.write_names(&below, answer);
     answer[0] = make_word(WordKind::AnswerHead, count as u32);
     count + 1
 }

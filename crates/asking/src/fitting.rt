@@ -9,24 +9,30 @@ ghost use Rattle.catalogue.specs.View.{view};
 ghost use Rattle.asking.specs.Naming.{fits_name};
 
 use super::checks::check_fit;
-use super::fit_names::FitNames;
-use super::naming::{place_of, row_at};
+use super::rows::{Rows, place_of};
 use catalogue::Catalogue;
 use codes::{Code, Truth};
 use questions::{Names, check_count, evaluate};
 use words::{CatalogueFault, QuestionFault};
 
+// With the place of the kind that is to fit.
+#[derive(Drop)]
+struct FitNames<'a, 'b, C: Truth> {
+    rows: Rows<'a, 'b, C>,
+    place: usize,
+}
+
 // A name means whether the kind descends from the named one, and all that it stands.
 impl<'a, 'b, C: Code + Drop> Names<bool> for FitNames<'a, 'b, C> {
-    ghost standing = { λ s k. stands k (view s.catalogue.now).book.kinds };
+    ghost standing = { λ s k. stands k (view s.rows.catalogue.now).book.kinds };
 
-    ghost named = { λ s serial _. fits_name (view s.catalogue.now) C.Truth.sort.width (sets_of C.Truth.sort s.table.now) s.place serial };
+    ghost named = { λ s serial _. fits_name (view s.rows.catalogue.now) C.Truth.sort.width (sets_of C.Truth.sort s.rows.table.now) s.place serial };
 
     ghost whole = { λ _ _. true };
 
     fn name(&self, serial: u32, index: usize) -> Result<bool, CatalogueFault> {
-        let place = place_of(self.catalogue, serial, index)?;
-        Ok(C::read(row_at::<C>(self.table, place)).has(self.place))
+        let row = self.rows.named(serial, index)?;
+        Ok(C::read(row).has(self.place))
     }
 
     fn all(&self) -> bool {
@@ -50,8 +56,7 @@ pub fn fit<C: Code + Drop>(
     check_count(words)?;
     let place = place_of(catalogue, serial, 0)?;
     let names = FitNames::<C> {
-        catalogue,
-        table,
+        rows: Rows { catalogue, table },
         place,
     };
     evaluate::<bool, FitNames<'_, '_, C>>(words, &names, working)?;

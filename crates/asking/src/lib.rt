@@ -4,10 +4,9 @@
 mod answer;
 mod checks;
 mod decode;
-mod fit_names;
 mod fitting;
 mod naming;
-mod row_names;
+mod rows;
 
 pub use answer::ask;
 pub use fitting::fit;

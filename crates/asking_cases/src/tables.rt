@@ -1,4 +1,5 @@
 // The clutch catalogue, questions about it, and what happens to it after an answer was kept.
+use showing::Step;
 
 pub const CLUTCHES: [u32; 15] = [
     0x8000_0005,
@@ -71,18 +72,11 @@ pub const QUESTIONS: [(&'static str, &'static [u32]); 14] = [
 // The answer 50.
 pub const KIT: [u32; 2] = [0x7000_0001, N50];
 
-// A call that the kit is recalled after.
-#[derive(Clone, Copy)]
-pub enum Edit {
-    Unline(u32, u32),
-    Withdraw(u32),
-    Enter(u32),
-}
-
-pub const EDITS: [(&'static str, Edit); 5] = [
-    ("50 is no 20 any more", Edit::Unline(50, 20)),
-    ("50 is no 40 any more", Edit::Unline(50, 40)),
-    ("50 is withdrawn", Edit::Withdraw(50)),
-    ("60 is entered", Edit::Enter(60)),
-    ("50 is entered again", Edit::Enter(50)),
+// Calls that the kit is recalled after.
+pub const EDITS: [(&'static str, Step); 5] = [
+    ("50 is no 20 any more", Step::Unline(50, 20)),
+    ("50 is no 40 any more", Step::Unline(50, 40)),
+    ("50 is withdrawn", Step::Withdraw(50)),
+    ("60 is entered", Step::Enter(60)),
+    ("50 is entered again", Step::Enter(50)),
 ];

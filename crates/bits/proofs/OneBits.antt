@@ -24,5 +24,5 @@ pub same_bits : (a b : Bits) → Agree 512 (words_have a.words) (words_have b.wo
 same_bits a b agree =
     same_words a b
     (ext_get_or 0 a.words b.words (a.whole ∙ sym b.whole)
-    (λ k h. digits_tell 64 (get_or a.words k 0) (get_or b.words k 0) (a.fits k) (b.fits k)
+    (λ k h. digits_tell (get_or a.words k 0) (get_or b.words k 0) (a.fits k) (b.fits k)
     (λ p l. sym (bit_of a.words k p l) ∙ agree (k * 64 + p) (omega (arith, a.whole)) ∙ bit_of b.words k p l)))

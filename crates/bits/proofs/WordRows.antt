@@ -1,9 +1,13 @@
 -- Rows of words: a loop over all of them, a write to one, and a search.
-use Rattle.std.proofs.Common.{◌≡◌, ℕ, ◌+◌, ◌-◌, ◌*◌, ◌/◌, ◌%◌, ◌^◌, ◌<◌, ◌≤◌, Bool, true, false, cond, not, ◌&&◌, ◌||◌, eqb, ltb, ◌≢◌, List, length, get_or, set, Some, sym, ap, ◌∙◌, subst, ⊎_elim, arith}
+use Rattle.std.proofs.Common.{◌≡◌, ℕ, ◌+◌, ◌-◌, ◌*◌, ◌/◌, ◌%◌, ◌^◌, ◌<◌, ◌≤◌, Bool, true, false, cond, not, ◌&&◌, ◌||◌, eqb, ltb, ◌≢◌, List, length, get_or, set, take, drop, position, Some, None, sym, ap, ◌∙◌, subst, ⊎_elim, arith}
 use lib.Bits.{bit_and, bit_or}
 use lib.Count.{count_trailing_zeros}
-use Rattle.std.proofs.lemmas.Nat.{and_mask, shr_le}
-use Rattle.std.proofs.lemmas.List.{get_or-set_same, get_or-set_other}
+use Rattle.std.proofs.lemmas.Nat.{shr_le}
+use Rattle.std.specs.List.{position_or_len}
+use Rattle.std.proofs.lemmas.Grind.{common_steps}
+use Rattle.std.proofs.lemmas.List.Sums.{fails_before_first}
+use Rattle.std.proofs.lemmas.List.{get_or-set_same, get_or-set_other, get_or-drop, length-drop, take_rest}
+use Rattle.std.proofs.lemmas.List.Quantifiers.{position-Some}
 use Rattle.std.proofs.lemmas.Bool.{cases_eq, lt-ltb, cond-true}
 use Rattle.std.proofs.lemmas.Bool.Decides.{nat_tests}
 use Rattle.bits.specs.Bits.{bit_at, words_have}
@@ -24,21 +28,13 @@ fit_set words i n h l fit k = ⊎_elim
 abbrev pub Done : (ℕ → ℕ → ℕ) → List ℕ → List ℕ → List ℕ → ℕ → Type 0
 Done op old others new i = (j : ℕ) → get_or new j 0 ≡ cond (ltb j i) (op (get_or old j 0) (get_or others j 0)) (get_or old j 0)
 
-pub done_none : (op : ℕ → ℕ → ℕ) (old others : List ℕ) → Done op old others old 0
-done_none op old others j = grind (arith, nat_tests)
-
-pub done_more : (op : ℕ → ℕ → ℕ) (old others new : List ℕ) (i : ℕ) → i < length new → Done op old others new i
-    → Done op old others (set new i (op (get_or new i 0) (get_or others i 0))) (i + 1)
-done_more op old others new i h done j =
-    let v = op (get_or new i 0) (get_or others i 0) in
-    ⊎_elim
-    (λ (e : j ≡ i).
-    let at_i : get_or new i 0 ≡ get_or old i 0 = done i ∙ grind (arith, nat_tests) in
-    let now-i : get_or (set new i v) i 0 ≡ op (get_or old i 0) (get_or others i 0) = rw get_or-set_same (ap (λ (n : ℕ). op n (get_or others i 0)) at_i) in
-    ap (λ (k : ℕ). get_or (set new i v) k 0) e ∙ now-i ∙ ap (λ (k : ℕ). op (get_or old k 0) (get_or others k 0)) (sym e)
-    ∙ sym (cond-true (ltb j (i + 1)) (op (get_or old j 0) (get_or others j 0)) (get_or old j 0) (lt-ltb j (i + 1) (omega arith))))
-    (λ (ne : j ≢ i). rw get_or-set_other (done j ∙ grind (arith, nat_tests)))
-    (cases_eq j i)
+-- after the last word each fits, where op makes words of words
+pub done_fit : (op : ℕ → ℕ → ℕ) (old others new : List ℕ) (i : ℕ) → Fit old → Fit others → Done op old others new i
+    → ((m n : ℕ) → m < 2 ^ 64 → n < 2 ^ 64 → op m n < 2 ^ 64) → Fit new
+done_fit op old others new i fit more done word k =
+    let one = word (get_or old k 0) (get_or others k 0) (fit k) (more k) in
+    let kept = fit k in
+    rw (done k) (elim (ltb k i) as (λ t. cond t (op (get_or old k 0) (get_or others k 0)) (get_or old k 0) < 2 ^ 64) [ true ↦ one | false ↦ kept ])
 
 -- what op does to each bit, the loop did to each place
 pub done_all : (op : ℕ → ℕ → ℕ) (f : Bool → Bool → Bool) (old others new : List ℕ) (i : ℕ) → 8 ≤ i → Fit old → Done op old others new i
@@ -66,18 +62,14 @@ module _ (words : List ℕ) (k : ℕ) (within : k / 64 < length words) where
   pub put_place : (p : ℕ) → words_have (set words (k / 64) (bit_or (get_or words (k / 64) 0) ((1 * 2 ^ (k % 64)) % 2 ^ 64))) p ≡ (eqb p k || words_have words p)
   put_place p =
       let word = get_or words (k / 64) 0 in
-      let bit = digit_put 64 word (k % 64) (p % 64) (omega arith) in
+      let bit = digit_put word (k % 64) (p % 64) (omega arith) in
       written (bit_or word ((1 * 2 ^ (k % 64)) % 2 ^ 64)) p (λ _. true) (bit ∙ grind (arith, nat_tests)) ∙ grind (arith, nat_tests)
 
   pub take-place : (p : ℕ) → words_have (set words (k / 64) (bit_and (get_or words (k / 64) 0) ((2 ^ 64 - 1) - (1 * 2 ^ (k % 64)) % 2 ^ 64))) p ≡ (not (eqb p k) && words_have words p)
   take-place p =
       let word = get_or words (k / 64) 0 in
-      let bit = digit_take 64 word (k % 64) (p % 64) (omega arith) (omega arith) in
+      let bit = digit_take word (k % 64) (p % 64) (omega arith) (omega arith) in
       written (bit_and word ((2 ^ 64 - 1) - (1 * 2 ^ (k % 64)) % 2 ^ 64)) p (λ _. false) (bit ∙ grind (arith, nat_tests)) ∙ grind (arith, nat_tests)
-
-pub has_place : (words : List ℕ) (w p : ℕ) → p < w → eqb (bit_and (get_or words (p / 64) 0 / 2 ^ (p % 64)) 1) 1 ≡ (ltb p w && words_have words p)
-has_place words w p h =
-    ap (λ (n : ℕ). eqb n 1) (and_mask (get_or words (p / 64) 0 / 2 ^ (p % 64)) 1) ∙ ap (λ (t : Bool). t && words_have words p) (sym (lt-ltb p w h))
 
 -- what a word, shifted so that the place `from` comes first, tells of its places from there on
 module _ (words : List ℕ) (i a from rest : ℕ) (start : from ≡ i * 64 + a) (in-word : a < 64) (shifted : rest ≡ get_or words i 0 / 2 ^ a) where
@@ -96,13 +88,50 @@ module _ (words : List ℕ) (i a from rest : ℕ) (start : from ≡ i * 64 + a) 
       let t = count_trailing_zeros 64 rest in
       let q = from + t in
       let small : rest < 2 ^ 64 = omega (arith, fit i, shr_le (get_or words i 0) a) in
-      let one : bit_at rest t ≡ true = zeros_end 64 rest some small in
+      let one : bit_at rest t ≡ true = zeros_end rest some small in
       let unshifted : bit_at (get_or words i 0) (a + t) ≡ true =
       digit_shifted (get_or words i 0) a (a + t) (omega arith) ∙ ap (λ (n : ℕ). bit_at n (a + t - a)) (sym shifted)
       ∙ ap (bit_at rest) (let back : a + t - a ≡ t = omega arith in back) ∙ one in
-      let below : a + t < 64 = digit_below 64 (get_or words i 0) (a + t) (fit i) unshifted in (
+      let below : a + t < 64 = digit_below (get_or words i 0) (a + t) (fit i) unshifted in (
         omega arith,
         omega arith,
         in_rest q (omega arith) (omega arith) ∙ ap (bit_at rest) (let back : q - from ≡ t = omega arith in back) ∙ one,
-        (λ p l b. in_rest p l (omega arith) ∙ zeros-before 64 rest (p - from) (omega arith)),
+        (λ p l b. in_rest p l (omega arith) ∙ zeros-before rest (p - from) some small (omega arith)),
       )
+
+abbrev pub some_bit : ℕ → Bool
+some_bit word = not (eqb word 0)
+
+-- before the first word that is not 0, of those from the word `start` on, there is no place
+module _ (words : List ℕ) (start : ℕ) (whole : length words ≡ 8) where
+  abbrev later : List ℕ
+  later = take (8 - start) (drop start words)
+
+  later_is : later ≡ drop start words
+  later_is = subst (λ (n : ℕ). take (n - start) (drop start words) ≡ drop start words) whole (take_rest words start)
+
+  none_passed : (p : ℕ) → start * 64 ≤ p → p / 64 - start < position_or_len some_bit later → words_have words p ≡ false
+  none_passed p h l =
+      let k = p / 64 - start in
+      let there : start + k ≡ p / 64 = omega arith in
+      let fails = fails_before_first some_bit later k 0 l in
+      let zero_word : get_or words (p / 64) 0 ≡ 0 =
+      ap (λ (i : ℕ). get_or words i 0) (sym there) ∙ sym (get_or-drop start words k 0) ∙ ap (λ xs. get_or xs k 0) (sym later_is) ∙ grind (arith, nat_tests) in
+      ap (λ (n : ℕ). bit_at n (p % 64)) zero_word ∙ digit_zero (p % 64)
+
+  pub none_after : position some_bit later ≡ None → (p : ℕ) → start * 64 ≤ p → p < 512 → words_have words p ≡ false
+  none_after e p h l =
+      let count : length later ≡ 8 - start = ap length later_is ∙ omega (arith, length-drop start words) in
+      let all : length later ≤ position_or_len some_bit later = grind (arith, common_steps) in
+      none_passed p h (omega arith)
+
+  pub first_after : (skipped : ℕ) → position some_bit later ≡ Some skipped
+      → (start + skipped < 8) × (0 < get_or words (start + skipped) 0)
+      × ((p : ℕ) → start * 64 ≤ p → p < (start + skipped) * 64 → words_have words p ≡ false)
+  first_after skipped e =
+      let found = position-Some some_bit later skipped 0 e in
+      let at : position_or_len some_bit later ≡ skipped = grind (arith, common_steps) in
+      let count : length later ≡ 8 - start = ap length later_is ∙ omega (arith, length-drop start words) in
+      let some : 0 < get_or later skipped 0 = grind (arith, nat_tests) in
+      let same : get_or later skipped 0 ≡ get_or words (start + skipped) 0 = ap (λ xs. get_or xs skipped 0) later_is ∙ get_or-drop start words skipped 0 in
+      (omega arith, omega arith, λ p h l. none_passed p h (omega arith))

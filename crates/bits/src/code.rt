@@ -1,17 +1,16 @@
 // Bits as a sort of code: word by word, and one word for one place.
+ghost use Rattle.std.specs.Prelude.{◌≡◌, not, ◌==◌, position};
 ghost use Rattle.bits.specs.Bits.{bits_sort};
 ghost use Rattle.std.proofs.Common.{rules, arith};
 
-use super::value::Bits;
-use codes::{Code, PLACES, Truth};
+use super::value::{Bits, WORDS};
+use codes::{Code, PLACES, Truth, within_width};
 use words::CodeFault;
-
-const WORDS: usize = 8;
 
 const WORD_BITS: usize = 64;
 
 impl Truth for Bits {
-    type Row = [u64; 8];
+    type Row = [u64; WORDS];
 
     ghost sort = { bits_sort };
 
@@ -22,57 +21,56 @@ impl Truth for Bits {
     }
 
     fn empty() -> Bits {
-        Bits { words: [0; 8] }
+        Bits { words: [0; WORDS] }
     }
 
+    // The other's words are taken by index: after a zip over `iter_mut` nothing is known of what was written.
     fn meet(&mut self, other: &Bits) {
-        for i in 0..WORDS {
-            self.words[i] = self.words[i] & other.words[i];
+        for (i, word) in self.words.iter_mut().enumerate() {
+            *word &= other.words[i];
         }
     }
 
     fn join(&mut self, other: &Bits) {
-        for i in 0..WORDS {
-            self.words[i] = self.words[i] | other.words[i];
+        for (i, word) in self.words.iter_mut().enumerate() {
+            *word |= other.words[i];
         }
     }
 
     fn complement(&mut self) {
-        for i in 0..WORDS {
-            self.words[i] = !self.words[i];
+        for word in self.words.iter_mut() {
+            *word = !*word;
         }
     }
 
-    fn write(&self) -> [u64; 8] {
+    fn write(&self) -> [u64; WORDS] {
         self.words
     }
 
-    // Each word is read, which shows that it fits.
-    fn read(row: [u64; 8]) -> Bits {
-        let mut words = [0; 8];
-        for i in 0..WORDS {
-            words[i] = row[i];
-        }
-        Bits { words }
+    fn read(row: [u64; WORDS]) -> Bits {
+        Bits { words: row }
     }
+}
+
+// The index of the first word that is not 0.
+fn first_not_zero(words: &[u64]) -> Option<usize>
+    ensures { result ≡ position (λ word. not (word == 0)) words.now }
+{
+    words.iter().position(|word| *word != 0)
 }
 
 impl Code for Bits {
     fn put(&mut self, place: usize) -> Result<(), CodeFault> {
-        if place >= PLACES {
-            return Err(CodeFault::PastWidth);
-        }
+        within_width(place)?;
         let i = place / WORD_BITS;
-        self.words[i] = self.words[i] | (1 << (place % WORD_BITS));
+        self.words[i] |= 1 << (place % WORD_BITS);
         Ok(())
     }
 
     fn take(&mut self, place: usize) -> Result<(), CodeFault> {
-        if place >= PLACES {
-            return Err(CodeFault::PastWidth);
-        }
+        within_width(place)?;
         let i = place / WORD_BITS;
-        self.words[i] = self.words[i] & !(1 << (place % WORD_BITS));
+        self.words[i] &= !(1 << (place % WORD_BITS));
         Ok(())
     }
 
@@ -93,12 +91,8 @@ impl Code for Bits {
         if rest != 0 {
             return Some(from + rest.trailing_zeros() as usize);
         }
-        for i in first + 1..WORDS {
-            let word = self.words[i];
-            if word != 0 {
-                return Some(i * WORD_BITS + word.trailing_zeros() as usize);
-            }
-        }
-        None
+        let skipped = first_not_zero(&self.words[first + 1..])?;
+        let i = first + 1 + skipped;
+        Some(i * WORD_BITS + self.words[i].trailing_zeros() as usize)
     }
 }

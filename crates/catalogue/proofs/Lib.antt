@@ -4,4 +4,3 @@ pub mod KindEdits
 pub mod LineEdits
 pub mod Filling
 pub mod Shown
-pub mod ClosingMoves

@@ -1,26 +1,26 @@
 -- What entering and withdrawing a line keep true of the lines.
-use Rattle.std.proofs.Common.{◌≡◌, ℕ, zero, suc, ◌+◌, ◌*◌, ◌^◌, ◌<◌, ◌≤◌, Bool, true, false, not, ◌&&◌, eqb, List, [], ◌∷◌, map, length, get_or, None, filter, sym, refl, ◌∙◌, subst, ap₂, ⊎_elim, arith}
-use Rattle.std.specs.List.{remove}
+use Rattle.std.proofs.Common.{◌≡◌, ℕ, zero, suc, ◌+◌, ◌*◌, ◌^◌, ◌<◌, ◌≤◌, Bool, true, false, not, ◌&&◌, eqb, List, [], ◌∷◌, map, length, get_or, None, Ok, Err, filter, sym, refl, ◌∙◌, ap₂, ⊎_elim, arith}
+use Rattle.std.specs.List.{insert, remove}
 use Rattle.std.proofs.lemmas.List.{length-map, get_or-map}
 use Rattle.std.proofs.lemmas.Bool.{and_parts, and_from, or_from, or_left, or_right, eqb-true, eq-eqb, not-false, not_from_true, not_from_false, cases_lt, cases_Bool}
 use Rattle.descent.specs.declared.line.Line.{Line}
 use Rattle.descent.specs.Lines.{stands, has_line}
-use Rattle.search.specs.declared.spot.Spot.TheVariants.{Here, Gap}
-use Rattle.descent.specs.Order.{rising_from, line_key}
+use Rattle.descent.specs.Order.{rising_from, line_key, filed}
 use Rattle.search.specs.Order.{Located}
 use Rattle.descent.specs.Proper.{below, joins, joining}
-use Rattle.search.specs.declared.spot.Spot.{Spot}
+use Rattle.catalogue.specs.declared.state.Catalogue.{Catalogue}
 use Rattle.catalogue.specs.Ledger.{Ledger, kind_refusal, ends_refusal}
+use Rattle.catalogue.specs.View.{view}
 use Rattle.words.specs.declared.refusal.Refusal.{Refusal}
 use Rattle.words.specs.declared.refusal.Part.TheVariants as part
 use Rattle.words.specs.Refusals.{refusal, refuse_if, serial_refusal}
-use Rattle.words.proofs.Chain.{all_pass, not-refused, good_serial}
+use Rattle.words.proofs.Chain.{each_passes, not-refused, good_serial}
+use Rattle.search.proofs.Spots.{rising_inserted, gap_filed}
 use Rattle.descent.proofs.Proper.{rising_later}
-use Rattle.descent.proofs.Rows.{left_out, stands-below}
-use Rattle.search.proofs.Spots.{look_in}
+use Rattle.descent.proofs.Rows.{left_out, stands-below, joining_inserted}
 
 -- a key tells the line, as its parent is below 2 ^ 32
-pub key_tells : (l m : Line) → l.parent < 2 ^ 32 → m.parent < 2 ^ 32 → line_key l ≡ line_key m → (l.child ≡ m.child) × (l.parent ≡ m.parent)
+key_tells : (l m : Line) → l.parent < 2 ^ 32 → m.parent < 2 ^ 32 → line_key l ≡ line_key m → (l.child ≡ m.child) × (l.parent ≡ m.parent)
 key_tells l m a b e = (omega arith, omega arith)
 
 module _ (ks : List ℕ) (few : below (2 ^ 28) ks ≡ true) where
@@ -35,7 +35,7 @@ module _ (ks : List ℕ) (few : below (2 ^ 28) ks ≡ true) where
     same : Line → Bool
     same l = eqb l.child x.child && eqb l.parent x.parent
 
-    pub line_here : (ls : List Line) (i : ℕ) → joining ks ls ≡ true → Located (map line_key ls) (line_key x) (Here i) → has_line x.child x.parent ls ≡ true
+    line_here : (ls : List Line) (i : ℕ) → joining ks ls ≡ true → Located (map line_key ls) (line_key x) (Ok i) → has_line x.child x.parent ls ≡ true
     line_here [] i j h = absurd (omega (arith, h.0))
     line_here (l ∷ ls) zero j h =
         let p = and_parts (joins ks l) (joining ks ls) j in
@@ -47,7 +47,7 @@ module _ (ks : List ℕ) (few : below (2 ^ 28) ks ≡ true) where
         or_right (eqb l.child x.child && eqb l.parent x.parent) (has_line x.child x.parent ls) (line_here ls i p.1 (omega (arith, h.0), h.1))
 
     -- a line whose key differs is another
-    pub other-line : (l : Line) → (line_key l ≡ line_key x → ⊥) → (eqb l.child x.child && eqb l.parent x.parent) ≡ false
+    other-line : (l : Line) → (line_key l ≡ line_key x → ⊥) → (eqb l.child x.child && eqb l.parent x.parent) ≡ false
     other-line l ne =
         ⊎_elim
         (λ (e : (eqb l.child x.child && eqb l.parent x.parent) ≡ true).
@@ -58,17 +58,17 @@ module _ (ks : List ℕ) (few : below (2 ^ 28) ks ≡ true) where
         (λ e. e)
         (cases_Bool (eqb l.child x.child && eqb l.parent x.parent))
 
-    pub line-gone : (ls : List Line) → ((k : ℕ) → k < length (map line_key ls) → get_or (map line_key ls) k 0 ≡ line_key x → ⊥) → has_line x.child x.parent ls ≡ false
+    line-gone : (ls : List Line) → ((k : ℕ) → k < length (map line_key ls) → get_or (map line_key ls) k 0 ≡ line_key x → ⊥) → has_line x.child x.parent ls ≡ false
     line-gone [] none = refl
     line-gone (l ∷ ls) none =
         or_from (eqb l.child x.child && eqb l.parent x.parent) (has_line x.child x.parent ls) (other-line l (none 0 (omega arith)))
         (line-gone ls (λ k m. none (suc k) (omega arith)))
 
-    pub gap-gone : (ls : List Line) (i : ℕ) → Located (map line_key ls) (line_key x) (Gap i) → has_line x.child x.parent ls ≡ false
+    gap-gone : (ls : List Line) (i : ℕ) → Located (map line_key ls) (line_key x) (Err i) → has_line x.child x.parent ls ≡ false
     gap-gone ls i h =
         line-gone ls (λ k m e. ⊎_elim (λ (lt : k < i). omega (arith, h.1 k lt)) (λ (ge : i ≤ k). omega (arith, h.2 k ge m)) (cases_lt k i))
 
-    pub line-left-out : (ls : List Line) (i : ℕ) → rising_from 0 (map line_key ls) ≡ true → joining ks ls ≡ true → Located (map line_key ls) (line_key x) (Here i)
+    line-left-out : (ls : List Line) (i : ℕ) → rising_from 0 (map line_key ls) ≡ true → joining ks ls ≡ true → Located (map line_key ls) (line_key x) (Ok i)
         → remove ls i ≡ filter (λ m. not (eqb m.child x.child && eqb m.parent x.parent)) ls
     line-left-out ls i r j h =
         let long = length-map ls line_key in
@@ -91,32 +91,67 @@ module _ (ks : List ℕ) (few : below (2 ^ 28) ks ≡ true) where
         proper-at (m ∷ ms) zero d l g = (and_parts (joins ks m) (joining ks ms) g).0
         proper-at (m ∷ ms) (suc n) d l g = proper-at ms n d (omega arith) (and_parts (joins ks m) (joining ks ms) g).1
 
--- what a look for a line's key into the slice of the lines says of the lines
-pub look_line : (ls ms : List Line) (x : Line) (k : ℕ) (spot : Spot) → ms ≡ ls → k ≡ line_key x → rising_from 0 (map line_key ls) ≡ true
-    → (rising_from 0 (map line_key ms) ≡ true → Located (map line_key ms) k spot) → Located (map line_key ls) (line_key x) spot
-look_line ls ms x k spot e f r h = subst (λ (n : ℕ). Located (map line_key ls) n spot) f (look_in line_key ls ms k spot e r h)
-
 -- a kind that passed has a serial in range, and stands
 kind_passed : (l : Ledger) (x : ℕ) → kind_refusal l x ≡ None → (0 < x) × (x < 2 ^ 28) × (stands x l.kinds ≡ true)
 kind_passed l x e =
     let missing : Refusal = refusal 5 0 part.Kind in
-    let a = all_pass (serial_refusal x 0) (refuse_if (not (stands x l.kinds)) missing ∷ []) e in
-    let b = all_pass (refuse_if (not (stands x l.kinds)) missing) [] a.1 in
-    let g = good_serial x 0 a.0 in
-    (g.0, g.1, not-false (stands x l.kinds) (not-refused (not (stands x l.kinds)) missing b.0))
+    let q = each_passes (serial_refusal x 0 ∷ refuse_if (not (stands x l.kinds)) missing ∷ []) e in
+    let g = good_serial x 0 q.0 in
+    (g.0, g.1, not-false (stands x l.kinds) (not-refused (not (stands x l.kinds)) missing q.1.0))
 
 -- the ends of a line that passed stand and differ, and the line's key is above 0
-pub ends_passed : (l : Ledger) (c p : ℕ) → ends_refusal l c p ≡ None
+ends_passed : (l : Ledger) (c p : ℕ) → ends_refusal l c p ≡ None
     → (joins l.kinds (record { child = c; parent = p }) ≡ true) × (0 < line_key (record { child = c; parent = p })) × (p < 2 ^ 32)
 ends_passed l c p e =
     let own : Refusal = refusal 7 0 part.Line in
-    let a = all_pass (kind_refusal l c) (kind_refusal l p ∷ refuse_if (eqb c p) own ∷ []) e in
-    let b = all_pass (kind_refusal l p) (refuse_if (eqb c p) own ∷ []) a.1 in
-    let d = all_pass (refuse_if (eqb c p) own) [] b.1 in
-    let u = kind_passed l c a.0 in
-    let v = kind_passed l p b.0 in (
+    let q = each_passes (kind_refusal l c ∷ kind_refusal l p ∷ refuse_if (eqb c p) own ∷ []) e in
+    let u = kind_passed l c q.0 in
+    let v = kind_passed l p q.1.0 in (
       and_from (stands c l.kinds) (stands p l.kinds && not (eqb c p)) u.2
-          (and_from (stands p l.kinds) (not (eqb c p)) v.2 (not_from_false (eqb c p) (not-refused (eqb c p) own d.0))),
+          (and_from (stands p l.kinds) (not (eqb c p)) v.2 (not_from_false (eqb c p) (not-refused (eqb c p) own q.1.1.0))),
       omega (arith, u.0),
       omega (arith, v.1),
     )
+
+-- what a look that found a line tells of the lines
+pub record LineFound (s : Catalogue) (x : Line) (i : ℕ) : Type 0 where
+  pub stands : has_line x.child x.parent (view s).book.lines ≡ true
+  pub left : remove (view s).book.lines i ≡ filter (λ m. not (eqb m.child x.child && eqb m.parent x.parent)) (view s).book.lines
+
+-- what a look that found a line's gap tells of them
+pub record LineGap (s : Catalogue) (x : Line) (i : ℕ) : Type 0 where
+  pub missing : has_line x.child x.parent (view s).book.lines ≡ false
+  pub rising : rising_from 0 (insert (map line_key (view s).book.lines) i (line_key x)) ≡ true
+  pub joins : joining (view s).book.kinds (insert (view s).book.lines i x) ≡ true
+  pub files : insert (view s).book.lines i x ≡ filed line_key x (view s).book.lines
+
+-- a look at the key of a line whose ends passed
+module _ (s : Catalogue) (c p i : ℕ) (ok : ends_refusal (view s).book c p ≡ None) {key : ℕ} (is : key ≡ line_key (record { child = c; parent = p })) where
+  x : Line
+  x = record { child = c; parent = p }
+
+  pub line_found : Located (map line_key (view s).book.lines) key (Ok i) → LineFound s (record { child = c; parent = p }) i
+  unfolding x
+  line_found at_key =
+      let ks = (view s).book.kinds in
+      let ls = (view s).book.lines in
+      let tight = (ends_passed (view s).book c p ok).2 in
+      let look = rw is at at_key in
+      record {
+        stands = line_here ks s.seats.serials x tight ls i s.joins look;
+        left = line-left-out ks s.seats.serials x tight ls i s.lines.rising s.joins look;
+      }
+
+  pub line_gap : Located (map line_key (view s).book.lines) key (Err i) → LineGap s (record { child = c; parent = p }) i
+  unfolding x
+  line_gap at_key =
+      let ks = (view s).book.kinds in
+      let ls = (view s).book.lines in
+      let ends = ends_passed (view s).book c p ok in
+      let look = rw is at at_key in
+      record {
+        missing = gap-gone ks s.seats.serials x ends.2 ls i look;
+        rising = rising_inserted 0 (map line_key ls) (line_key x) i s.lines.rising ends.1 look;
+        joins = joining_inserted ks ls i x ends.0 s.joins;
+        files = gap_filed line_key ls x i look;
+      }

@@ -1,10 +1,10 @@
 -- The places stay the places below the width, each once.
-use Rattle.std.proofs.Common.{◌≡◌, ℕ, zero, suc, ◌+◌, ◌<◌, ◌≤◌, Bool, true, false, not, ◌&&◌, eqb, ltb, List, [], ◌∷◌, ◌++◌, length, get_or, take, drop, sym, refl, ap, ◌∙◌, ap₂, arith}
+use Rattle.std.proofs.Common.{◌≡◌, ℕ, zero, suc, ◌+◌, ◌<◌, ◌≤◌, Bool, true, false, not, ◌&&◌, eqb, ltb, List, [], ◌∷◌, ◌++◌, length, get_or, take, drop, drop-cons, sym, refl, ap, ◌∙◌, ap₂, arith}
 use Rattle.std.specs.List.{insert, remove, range_with_len}
-use Rattle.std.proofs.lemmas.List.{append_assoc, append-nil, length-append, take-append-drop, take_all, drop_all, map-id}
+use Rattle.std.proofs.lemmas.List.{append_assoc, append-nil, length-append, take-append-drop}
 use Rattle.descent.specs.Proper.{below, distinct}
 use Rattle.catalogue.specs.Proper.{seated}
-use Rattle.std.proofs.lemmas.List.FromFn.{length-range_with_len, map-range_with_len_more}
+use Rattle.std.proofs.lemmas.List.FromFn.{length-range_with_len}
 use Rattle.std.proofs.lemmas.Bool.{and_from, and_parts, or_from, or_parts, not-true, not_from_false, ne_eqb, eq-eqb, lt-ltb}
 use Rattle.descent.specs.Lines.{stands}
 use Rattle.descent.proofs.Rows.{below_middle, distinct_middle}
@@ -14,7 +14,7 @@ length_middle : (xs ys : List ℕ) (y : ℕ) → length (xs ++ y ∷ ys) ≡ len
 length_middle xs ys y = omega (arith, length-append xs (y ∷ ys), length-append xs ys)
 
 -- a place in the middle may as well stand first
-pub seated_middle : (w : ℕ) (xs ys : List ℕ) (y : ℕ) → seated w (xs ++ y ∷ ys) ≡ seated w (y ∷ (xs ++ ys))
+seated_middle : (w : ℕ) (xs ys : List ℕ) (y : ℕ) → seated w (xs ++ y ∷ ys) ≡ seated w (y ∷ (xs ++ ys))
 seated_middle w xs ys y =
     ap₂ (λ (a : ℕ) (b : Bool). eqb a w && b) (length_middle xs ys y) (ap₂ (λ (a b : Bool). a && b) (below_middle w xs ys y) (distinct_middle xs ys y))
 
@@ -27,30 +27,16 @@ seated_inserted w xs free free' i p e h =
     ap (seated w) (append_assoc (take i xs) (p ∷ drop i xs) free') ∙ seated_middle w (take i xs) (drop i xs ++ free') p
     ∙ ap (λ (ys : List ℕ). seated w (p ∷ ys)) (sym (append_assoc (take i xs) (drop i xs) free') ∙ ap (λ (ys : List ℕ). ys ++ free') (take-append-drop i xs)) ∙ front
 
--- the last place moves to the kind that is put in behind the others
-pub seated_pushed : (w : ℕ) (xs free free' : List ℕ) (p : ℕ) → free ≡ free' ++ p ∷ [] → seated w (xs ++ free) ≡ true → seated w ((xs ++ p ∷ []) ++ free') ≡ true
-seated_pushed w xs free free' p e h =
-    let whole : take (length xs) xs ≡ xs = take_all (length xs) xs (omega arith) in
-    let none : drop (length xs) xs ≡ [] = drop_all (length xs) xs (omega arith) in
-    sym (ap₂ (λ (us vs : List ℕ). seated w ((us ++ p ∷ vs) ++ free')) whole none) ∙ seated_inserted w xs free free' (length xs) p e h
-
 -- the place of a kind that is taken out moves to the end
 pub seated_removed : (w : ℕ) (xs free free' : List ℕ) (i p : ℕ) → i < length xs → get_or xs i 0 ≡ p → free' ≡ free ++ p ∷ [] → seated w (xs ++ free) ≡ true → seated w (remove xs i ++ free') ≡ true
 seated_removed w xs free free' i p l is e h =
-    let whole : xs ≡ take i xs ++ p ∷ drop (suc i) xs = split xs i p l is in
+    let whole : xs ≡ take i xs ++ p ∷ drop (suc i) xs =
+    sym (take-append-drop i xs) ∙ ap (λ (ys : List ℕ). take i xs ++ ys) (drop-cons xs i 0 l ∙ ap (λ (q : ℕ). q ∷ drop (suc i) xs) is) in
     let front : seated w (p ∷ (remove xs i ++ free)) ≡ true =
     sym (ap (λ (ys : List ℕ). seated w (ys ++ free)) whole ∙ ap (seated w) (append_assoc (take i xs) (p ∷ drop (suc i) xs) free)
     ∙ seated_middle w (take i xs) (drop (suc i) xs ++ free) p ∙ ap (λ (ys : List ℕ). seated w (p ∷ ys)) (sym (append_assoc (take i xs) (drop (suc i) xs) free))) ∙ h in
     ap (λ (ys : List ℕ). seated w (remove xs i ++ ys)) e ∙ ap (seated w) (sym (append_assoc (remove xs i) free (p ∷ [])))
     ∙ seated_middle w (remove xs i ++ free) [] p ∙ ap (λ (ys : List ℕ). seated w (p ∷ ys)) (append-nil (remove xs i ++ free)) ∙ front
-  where
-    split : (ys : List ℕ) (j q : ℕ) → j < length ys → get_or ys j 0 ≡ q → ys ≡ take j ys ++ q ∷ drop (suc j) ys
-    split [] j q m f = absurd (omega arith)
-    split (y ∷ ys) zero q m f = ap (λ (z : ℕ). z ∷ ys) f
-    split (y ∷ ys) (suc j) q m f = ap (λ (zs : List ℕ). y ∷ zs) (split ys j q (omega arith) f)
-
-pub counting_more : (n : ℕ) → range_with_len 0 (n + 1) ≡ range_with_len 0 n ++ n ∷ []
-counting_more n = sym (map-id (range_with_len 0 (n + 1))) ∙ map-range_with_len_more (λ k. k) 0 n n (omega arith) ∙ ap (λ (xs : List ℕ). xs ++ n ∷ []) (map-id (range_with_len 0 n))
 
 counting_below : (w a n : ℕ) → a + n ≤ w → below w (range_with_len a n) ≡ true
 counting_below w a zero l = refl

@@ -1,5 +1,5 @@
 -- What stands in a catalogue, and what is lent of it.
-use Rattle.std.proofs.Common.{ℕ, List, vec_items, subst, arith}
+use Rattle.std.proofs.Common.{◌≡◌, ℕ, true, List, ◌++◌, length, vec_items, sym, ◌∙◌, subst, arith}
 use Rattle.std.proofs.lemmas.List.{length-map}
 use Rattle.descent.specs.declared.line.Line.{Line}
 use Rattle.descent.specs.declared.standing.Standing.{Standing}
@@ -7,22 +7,32 @@ use Rattle.descent.specs.Lines.{serials_of, places_of}
 use Rattle.descent.specs.Proper.{CanHold}
 use Rattle.catalogue.specs.declared.state.Catalogue.{Catalogue}
 use Rattle.catalogue.specs.View.{View, view, Shows}
+use Rattle.catalogue.specs.Proper.{seated}
 use Rattle.catalogue.proofs.KindEdits.{seats_count}
 
+-- the places of the kinds and the free places are the places below the width, each once
+pub view_seated : (s : Catalogue) → seated (view s).book.wide ((view s).places ++ (view s).free) ≡ true
+view_seated s = s.seats.seats
+
+-- each kind has a place
+pub view_paired : (s : Catalogue) → length (view s).places ≡ length (view s).book.kinds
+view_paired s =
+    let kinds = vec_items s.seats.kinds.entries in
+    length-map kinds (λ k. k.place) ∙ sym (length-map kinds (λ k. k.serial))
+
 -- what stands, a catalogue can hold
-pub standing_held : (s : Catalogue) → CanHold s.width (view s).book.kinds (view s).book.lines
+pub standing_held : (s : Catalogue) → CanHold (view s).book.wide (view s).book.kinds (view s).book.lines
 standing_held s =
-    let seats = seats_count s.width (places_of (vec_items s.kinds)) (vec_items s.free) s.seats in
-    let long = length-map (vec_items s.kinds) (λ k. k.serial) in
-    let many = length-map (vec_items s.kinds) (λ k. k.place) in
+    let count = seats_count (view s).book.wide (view s).places (view s).free (view_seated s) in
+    let paired = view_paired s in
     record {
-      wide = s.wide.1;
+      wide = s.seats.wide.1;
       places = omega arith;
-      rising = s.rising;
-      serials = s.serials;
-      ordered = s.ordered;
+      rising = s.seats.kinds.rising;
+      serials = s.seats.serials;
+      ordered = s.lines.rising;
       joins = s.joins;
-      few = omega (arith, s.few, s.lines.ok.0);
+      few = omega (arith, s.most, s.lines.few, s.lines.entries.ok.0);
     }
 
 -- what holds of what is lent holds of what stands

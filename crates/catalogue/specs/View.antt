@@ -21,13 +21,13 @@ view c =
     record {
       book =
           record {
-            wide = c.width;
-            kinds = map (λ k. k.serial) (vec_items c.kinds);
-            lines = vec_items c.lines;
+            wide = c.seats.kinds.most;
+            kinds = map (λ k. k.serial) (vec_items c.seats.kinds.entries);
+            lines = vec_items c.lines.entries;
             closed = c.closed;
           };
-      places = map (λ k. k.place) (vec_items c.kinds);
-      free = vec_items c.free;
+      places = map (λ k. k.place) (vec_items c.seats.kinds.entries);
+      free = vec_items c.seats.free;
     }
 
 -- the call is answered as the ledger says and moves the catalogue as the ledger moves; a refusal leaves all as it was

@@ -1,22 +1,23 @@
 // Setting a catalogue up, and entering and withdrawing kinds and lines.
-ghost use Rattle.std.specs.Prelude.{◌≡◌, ◌<◌, ◌≤◌, true, IfOk, vec_len, vec_capacity};
-ghost use Rattle.catalogue.specs.Seats.{Seated, Freed};
+ghost use Rattle.std.specs.Prelude.{◌≡◌, IfOk};
 ghost use Rattle.descent.specs.Lines.{mentioned};
+ghost use Rattle.search.specs.Order.{Located};
 ghost use Rattle.words.specs.Refusals.{Says, catalogue_told};
 ghost use Rattle.catalogue.specs.Ledger.{enter, withdraw, enter_line, withdraw_line, kind_refusal, ends_refusal};
-ghost use Rattle.std.specs.List.{range_with_len};
 ghost use Rattle.catalogue.specs.declared.enter.SetUpFault.TheVariants.{Memory};
 ghost use Rattle.catalogue.specs.View.{view, Moved, Shows};
 ghost use Rattle.catalogue.specs.SetUp.{SetUp};
 
+use super::seats::Seats;
+use super::sorted::Sorted;
 use super::state::Catalogue;
-use descent::{Kind, Line, MAX_LINES, MAX_WIDTH, Standing};
-use search::{Keyed, Spot, locate};
+use descent::{Line, MAX_LINES, MAX_WIDTH, Standing};
+use search::Keyed;
 use std::alloc::{AllocError, Global};
 use words::{CatalogueFault, check_serial};
 
 // Why a catalogue cannot be set up.
-#[derive(Clone, Copy)]
+#[derive(Clone, Copy, Debug, PartialEq, Eq)]
 pub enum SetUpFault {
     Width,
     Memory,
@@ -30,45 +31,6 @@ impl From<AllocError> for SetUpFault {
     }
 }
 
-// Seats a new kind at a free place.
-fn seat(kinds: &mut Vec<Kind>, free: &mut Vec<usize>, at: usize, serial: u32)
-    requires within { at ≤ vec_len kinds.old }
-    requires room { vec_len kinds.old < vec_capacity kinds.old }
-    requires some { 0 < vec_len free.old }
-    ensures seated { Seated serial at kinds.old.items free.old.items kinds.new.items free.new.items }
-    ensures capacity { (vec_capacity kinds.new ≡ vec_capacity kinds.old) × (vec_capacity free.new ≡ vec_capacity free.old) }
-{
-    let Some(place) = free.pop() else {
-        unreachable()
-    };
-    match kinds.insert(at, Kind { serial, place }) {
-        Ok(()) => {}
-        Err(_) => unreachable(),
-    }
-}
-
-// Takes a kind out, and frees its place.
-fn unseat(kinds: &mut Vec<Kind>, free: &mut Vec<usize>, at: usize)
-    requires within { at < vec_len kinds.old }
-    requires room { vec_len free.old < vec_capacity free.old }
-    ensures freed { Freed at kinds.old.items free.old.items kinds.new.items free.new.items }
-    ensures capacity { (vec_capacity kinds.new ≡ vec_capacity kinds.old) × (vec_capacity free.new ≡ vec_capacity free.old) }
-{
-    let kind = kinds.remove(at);
-    free.push_reserved(kind.place);
-}
-
-// The places below the width, all free.
-fn all_places(heap: Global, width: usize) -> Result<Vec<usize>, AllocError>
-    ensures { IfOk result (λ v. (v.items ≡ range_with_len 0 width) × (width ≤ vec_capacity v)) }
-{
-    let mut free = Vec::with_capacity(heap, width)?;
-    for place in 0..width {
-        free.push_reserved(place);
-    }
-    Ok(free)
-}
-
 impl Catalogue {
     // An empty catalogue of so many places, with memory for all that may ever stand there.
     pub fn new(heap: Global, width: usize) -> Result<Catalogue, SetUpFault>
@@ -77,13 +39,10 @@ impl Catalogue {
         if width == 0 || width > MAX_WIDTH {
             return Err(SetUpFault::Width);
         }
-        let kinds = Vec::with_capacity(heap, width)?;
-        let free = all_places(heap, width)?;
-        let lines = Vec::with_capacity(heap, MAX_LINES)?;
+        let seats = Seats::new(heap, width)?;
+        let lines = Sorted::new(heap, MAX_LINES)?;
         Ok(Catalogue {
-            width,
-            kinds,
-            free,
+            seats,
             lines,
             closed: false,
         })
@@ -94,24 +53,24 @@ impl Catalogue {
         ensures { Shows (view self.now) result }
     {
         Standing {
-            width: self.width,
-            kinds: self.kinds.as_slice(),
+            width: self.width(),
+            kinds: self.seats.kinds.as_slice(),
             lines: self.lines.as_slice(),
         }
     }
 
+    // The four calls from here on name their own faults: a body for all of them would have more parameters than lines.
     pub fn enter(&mut self, serial: u32) -> Result<(), CatalogueFault>
         ensures { Moved catalogue_told (enter serial) (view self.old) (view self.new) result }
     {
         check_serial(serial, 0)?;
-        let at = match locate(&self.kinds, serial as u64) {
-            Spot::Here(_) => return Err(CatalogueFault::KindStands),
-            Spot::Gap(at) => at,
+        let Err(at) = self.seats.kinds.locate(serial as u64) else {
+            return Err(CatalogueFault::KindStands);
         };
-        if self.kinds.len() >= self.width {
+        if self.seats.kinds.is_full() {
             return Err(CatalogueFault::Full);
         }
-        seat(&mut self.kinds, &mut self.free, at, serial);
+        self.seats.seat(at, serial);
         self.closed = false;
         Ok(())
     }
@@ -119,15 +78,11 @@ impl Catalogue {
     pub fn withdraw(&mut self, serial: u32) -> Result<(), CatalogueFault>
         ensures { Moved catalogue_told (withdraw serial) (view self.old) (view self.new) result }
     {
-        check_serial(serial, 0)?;
-        let at = match locate(&self.kinds, serial as u64) {
-            Spot::Here(at) => at,
-            Spot::Gap(_) => return Err(CatalogueFault::KindMissing(0)),
-        };
-        if has_line(&self.lines, serial) {
+        let at = self.check_kind(serial)?;
+        if has_line(self.lines.as_slice(), serial) {
             return Err(CatalogueFault::KindHasLine);
         }
-        unseat(&mut self.kinds, &mut self.free, at);
+        self.seats.unseat(at);
         self.closed = false;
         Ok(())
     }
@@ -144,15 +99,16 @@ impl Catalogue {
         Ok(())
     }
 
-    // A kind that is handed in has to stand.
-    fn check_kind(&self, serial: u32) -> Result<(), CatalogueFault>
-        ensures { Says catalogue_told result (kind_refusal (view self.now).book serial) }
+    // A kind that is handed in has to stand; tells where.
+    fn check_kind(&self, serial: u32) -> Result<usize, CatalogueFault>
+        ensures says { Says catalogue_told result (kind_refusal (view self.now).book serial) }
+        ensures at { IfOk result (λ at. Located (view self.now).book.kinds serial (Ok at)) }
     {
         check_serial(serial, 0)?;
-        match locate(&self.kinds, serial as u64) {
-            Spot::Here(_) => Ok(()),
-            Spot::Gap(_) => Err(CatalogueFault::KindMissing(0)),
-        }
+        let Ok(at) = self.seats.kinds.locate(serial as u64) else {
+            return Err(CatalogueFault::KindMissing(0));
+        };
+        Ok(at)
     }
 
     pub fn enter_line(&mut self, child: u32, parent: u32) -> Result<(), CatalogueFault>
@@ -160,17 +116,13 @@ impl Catalogue {
     {
         self.check_ends(child, parent)?;
         let line = Line { child, parent };
-        let at = match locate(&self.lines, line.key()) {
-            Spot::Here(_) => return Err(CatalogueFault::LineStands),
-            Spot::Gap(at) => at,
+        let Err(at) = self.lines.locate(line.key()) else {
+            return Err(CatalogueFault::LineStands);
         };
-        if self.lines.len() >= MAX_LINES {
+        if self.lines.is_full() {
             return Err(CatalogueFault::LinesFull(0));
         }
-        match self.lines.insert(at, line) {
-            Ok(()) => {}
-            Err(_) => unreachable(),
-        }
+        self.lines.insert(at, line);
         self.closed = false;
         Ok(())
     }
@@ -180,9 +132,8 @@ impl Catalogue {
     {
         self.check_ends(child, parent)?;
         let line = Line { child, parent };
-        let at = match locate(&self.lines, line.key()) {
-            Spot::Here(at) => at,
-            Spot::Gap(_) => return Err(CatalogueFault::LineMissing),
+        let Ok(at) = self.lines.locate(line.key()) else {
+            return Err(CatalogueFault::LineMissing);
         };
         let _ = self.lines.remove(at);
         self.closed = false;
@@ -194,10 +145,7 @@ impl Catalogue {
 fn has_line(lines: &[Line], serial: u32) -> bool
     ensures { result ≡ mentioned serial lines.now }
 {
-    for line in lines {
-        if line.child == serial || line.parent == serial {
-            return true;
-        }
-    }
-    false
+    lines
+        .iter()
+        .any(|line| line.child == serial || line.parent == serial)
 }

@@ -6,6 +6,8 @@ mod enter;
 mod image;
 mod lookup;
 mod recall;
+mod seats;
+mod sorted;
 mod state;
 
 pub use descent::{MAX_LINES, MAX_WIDTH};

@@ -4,14 +4,13 @@ ghost use Rattle.catalogue.specs.View.{view, Found};
 
 use super::state::Catalogue;
 use descent::Kind;
-use search::{Spot, locate};
 
 impl Catalogue {
     pub fn width(&self) -> usize
         ensures value { result ≡ (view self.now).book.wide }
         ensures bound { result ≤ 512 }
     {
-        self.width
+        self.seats.kinds.most
     }
 
     pub fn is_closed(&self) -> bool
@@ -24,9 +23,9 @@ impl Catalogue {
     pub fn find(&self, serial: u32) -> Option<Kind>
         ensures { Found (view self.now) serial result }
     {
-        match locate(&self.kinds, serial as u64) {
-            Spot::Here(at) => Some(self.kinds[at]),
-            Spot::Gap(_) => None,
-        }
+        let Ok(at) = self.seats.kinds.locate(serial as u64) else {
+            return None;
+        };
+        Some(self.seats.kinds.entries[at])
     }
 }

@@ -1,25 +1,18 @@
 // The catalogue's state, and what is always true of it.
-ghost use Rattle.std.specs.Prelude.{◌≡◌, ◌^◌, ◌≤◌, true, ◌++◌, map, vec_len, vec_capacity};
-ghost use Rattle.descent.specs.Order.{rising_from, line_key};
-ghost use Rattle.descent.specs.Proper.{below, joining};
-ghost use Rattle.catalogue.specs.Proper.{seated};
+ghost use Rattle.std.specs.Prelude.{◌≡◌, true, map};
+ghost use Rattle.descent.specs.Proper.{joining};
 
-use descent::{Kind, Line};
+use super::seats::Seats;
+use super::sorted::Sorted;
+use descent::Line;
 
-// Kinds by rising serial, lines by rising child, then rising parent. All memory is taken at set-up.
+// Lines by rising child, then rising parent, each between two standing kinds. Contracts see a catalogue through `view`: a model
+// would hide what is always true of it from the crates that stand on it.
 #[derive(Drop)]
 pub struct Catalogue {
-    pub(crate) width: usize,
-    pub(crate) kinds: Vec<Kind>,
-    pub(crate) free: Vec<usize>,
-    pub(crate) lines: Vec<Line>,
+    pub(crate) seats: Seats,
+    pub(crate) lines: Sorted<Line>,
     pub(crate) closed: bool,
-    ghost wide: { (1 ≤ width) × (width ≤ 512) },
-    ghost room: { (width ≤ vec_capacity kinds) × (width ≤ vec_capacity free) × (2048 ≤ vec_capacity lines) },
-    ghost rising: { rising_from 0 (map (λ k. k.serial) kinds.items) ≡ true },
-    ghost serials: { below (2 ^ 28) (map (λ k. k.serial) kinds.items) ≡ true },
-    ghost seats: { seated width (map (λ k. k.place) kinds.items ++ free.items) ≡ true },
-    ghost ordered: { rising_from 0 (map line_key lines.items) ≡ true },
-    ghost joins: { joining (map (λ k. k.serial) kinds.items) lines.items ≡ true },
-    ghost few: { vec_len lines ≤ 2048 },
+    ghost most: { lines.most ≡ 2048 },
+    ghost joins: { joining (map (λ k. k.serial) seats.kinds.entries.items) lines.entries.items ≡ true },
 }

@@ -1,46 +1,23 @@
 // Cases for the catalogue: each refusal that its calls can give, its bounds, and a kit that outlives a kind.
 #![tactic(auto)]
 
-mod show;
 mod tables;
 
-use catalogue::{Catalogue, MAX_WIDTH, SetUpFault};
-use show::{show_done, show_words};
-use std::alloc::{AllocError, Global};
+use catalogue::{Catalogue, MAX_WIDTH};
+use showing::{Step, set_up, show_done, show_words};
 use std::io;
-use tables::{ANSWERS, IMAGES, STEPS, Step};
+use tables::{ANSWERS, IMAGES, STEPS};
 use words::{WordKind, make_word};
 
 // Long enough for an image with every kind and line that may stand, and one line more.
 const LIST: usize = 4_612;
 
-fn set_up(heap: Global, width: usize) -> io::Result<Catalogue> {
-    match Catalogue::new(heap, width) {
-        Ok(catalogue) => Ok(catalogue),
-        Err(SetUpFault::Width) => Err(io::Error::from(io::ErrorKind::InvalidInput)),
-        Err(SetUpFault::Memory) => Err(io::Error::from(AllocError)),
+fn carry_out(rt: &HostRuntime, catalogue: &mut Catalogue, steps: &[Step]) -> io::Result<()> {
+    for step in steps {
+        print!(rt; "{step}: ")?;
+        show_done(rt, step.carry_out(catalogue))?;
     }
-}
-
-fn step(rt: &HostRuntime, catalogue: &mut Catalogue, step: Step) -> io::Result<()> {
-    match step {
-        Step::Enter(serial) => {
-            print!(rt; "enter {serial}: ")?;
-            show_done(rt, catalogue.enter(serial))
-        }
-        Step::Withdraw(serial) => {
-            print!(rt; "withdraw {serial}: ")?;
-            show_done(rt, catalogue.withdraw(serial))
-        }
-        Step::Line(child, parent) => {
-            print!(rt; "line {child} {parent}: ")?;
-            show_done(rt, catalogue.enter_line(child, parent))
-        }
-        Step::Unline(child, parent) => {
-            print!(rt; "unline {child} {parent}: ")?;
-            show_done(rt, catalogue.withdraw_line(child, parent))
-        }
-    }
+    Ok(())
 }
 
 fn widths(rt: &HostRuntime) -> io::Result<()> {
@@ -56,18 +33,14 @@ fn widths(rt: &HostRuntime) -> io::Result<()> {
 fn steps(rt: &HostRuntime) -> io::Result<()> {
     println!(rt; "-- kinds and lines, in a catalogue of three places")?;
     let mut catalogue = set_up(rt.alloc(), 3)?;
-    for one in STEPS {
-        step(rt, &mut catalogue, one)?;
-    }
-    Ok(())
+    carry_out(rt, &mut catalogue, &STEPS)
 }
 
 fn images(rt: &HostRuntime) -> io::Result<()> {
     println!(rt; "-- images")?;
     let mut catalogue = set_up(rt.alloc(), MAX_WIDTH)?;
     for case in IMAGES {
-        let label = case.label;
-        print!(rt; "{label}: ")?;
+        print!(rt; "{}: ", case.label)?;
         show_done(rt, catalogue.read_image(case.words))?;
     }
     let mut list = [0; 9];
@@ -86,8 +59,7 @@ fn answers(rt: &HostRuntime) -> io::Result<()> {
     }
     let mut list = vec![in rt.alloc(); 0; 4]?;
     for case in ANSWERS {
-        let label = case.label;
-        print!(rt; "{label}: ")?;
+        print!(rt; "{}: ", case.label)?;
         show_words(rt, catalogue.recall(case.words, &mut list), &list)?;
     }
     let mut short = [0; 3];
@@ -111,7 +83,7 @@ fn kit(rt: &HostRuntime) -> io::Result<()> {
         Step::Withdraw(60),
         Step::Enter(50),
     ] {
-        step(rt, &mut catalogue, one)?;
+        carry_out(rt, &mut catalogue, &[one])?;
         print!(rt; "recalled: ")?;
         show_words(rt, catalogue.recall(&kept, &mut list), &list)?;
     }
@@ -121,34 +93,29 @@ fn kit(rt: &HostRuntime) -> io::Result<()> {
 fn most_kinds(rt: &HostRuntime) -> io::Result<()> {
     println!(rt; "-- 512 kinds")?;
     let mut catalogue = set_up(rt.alloc(), MAX_WIDTH)?;
-    let mut accepted = 0u32;
-    for serial in 1..513 {
-        if catalogue.enter(serial).is_ok() {
-            accepted = accepted.saturating_add(1);
-        }
-    }
+    let accepted = (1..513)
+        .filter(|serial| catalogue.enter(*serial).is_ok())
+        .count();
     println!(rt; "accepted: {accepted}")?;
-    for one in [
+    let turns = [
         Step::Enter(513),
         Step::Enter(512),
         Step::Withdraw(7),
         Step::Enter(513),
         Step::Enter(7),
-    ] {
-        step(rt, &mut catalogue, one)?;
-    }
-    Ok(())
+    ];
+    carry_out(rt, &mut catalogue, &turns)
 }
 
 // Lines from each of 1 to 64 to each of 65 to 96: as many as may stand.
-fn enter_lines(catalogue: &mut Catalogue) -> u32 {
-    let mut accepted = 0u32;
+fn enter_lines(catalogue: &mut Catalogue) -> usize {
+    // Child by child: one chain over the pairs got no proof.
+    let mut accepted = 0usize;
     for child in 1..65 {
-        for parent in 65..97 {
-            if catalogue.enter_line(child, parent).is_ok() {
-                accepted = accepted.saturating_add(1);
-            }
-        }
+        let entered = (65..97)
+            .filter(|parent| catalogue.enter_line(child, *parent).is_ok())
+            .count();
+        accepted = accepted.saturating_add(entered);
     }
     accepted
 }
@@ -161,7 +128,7 @@ fn most_lines(rt: &HostRuntime) -> io::Result<()> {
     }
     let accepted = enter_lines(&mut catalogue);
     println!(rt; "accepted: {accepted}")?;
-    for one in [
+    let turns = [
         Step::Line(65, 66),
         Step::Line(1, 65),
         Step::Unline(1, 65),
@@ -169,9 +136,8 @@ fn most_lines(rt: &HostRuntime) -> io::Result<()> {
         Step::Line(1, 65),
         Step::Unline(65, 66),
         Step::Line(1, 65),
-    ] {
-        step(rt, &mut catalogue, one)?;
-    }
+    ];
+    carry_out(rt, &mut catalogue, &turns)?;
     one_line_too_many(rt, &catalogue)
 }
 

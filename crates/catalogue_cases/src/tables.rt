@@ -1,12 +1,5 @@
 // The cases: calls in their order, images that are damaged in each way, and kept answers that are.
-
-#[derive(Clone, Copy)]
-pub enum Step {
-    Enter(u32),
-    Withdraw(u32),
-    Line(u32, u32),
-    Unline(u32, u32),
-}
+use showing::Step;
 
 // Words, and what is the matter with them.
 #[derive(Clone, Copy)]

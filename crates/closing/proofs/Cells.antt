@@ -1,10 +1,11 @@
 -- The cells of a table, before and after one row of it is written.
-use Rattle.std.proofs.Common.{◌≡◌, ℕ, ◌+◌, ◌<◌, ◌≤◌, Bool, true, false, ◌&&◌, ◌||◌, eqb, ltb, ◌≢◌, List, length, get_or, set, Ok, Err, Result, sym, refl, ap, ◌∙◌, inl, inr, arith}
+use Rattle.std.proofs.Common.{◌≡◌, ℕ, zero, suc, ◌+◌, ◌<◌, ◌≤◌, Bool, true, false, ◌&&◌, ◌||◌, eqb, ltb, ◌≢◌, List, length, get_or, replicate, set, Ok, Err, Result, sym, refl, ap, ◌∙◌, inl, inr, arith}
+use Rattle.std.proofs.Math.Bool.{or_comm, or-false}
 use Rattle.std.proofs.lemmas.List.{get_or-map, map-set, length-map, get_or-set_same, get_or-set_other}
 use Rattle.std.proofs.lemmas.Bool.{lt-ltb, cases_eq, eq-eqb, ne_eqb}
 use Rattle.words.specs.declared.refusal.CodeFault.{CodeFault}
 use Rattle.codes.specs.Sorts.{Sort, Agree, Changed}
-use Rattle.closing.specs.Tables.{sets_of, cell, Cells}
+use Rattle.closing.specs.Tables.{sets_of, cell, Cells, Empty}
 
 -- a place below the width is put in
 pub changed_within : {S R : Type 0} (s : Sort S R) (old new : S) (place : ℕ) (set : ℕ → Bool) (r : Result (Unit {0}) CodeFault) →
@@ -14,16 +15,6 @@ changed_within s old new place set (Err _) h lt = absurd (omega (arith, h.0))
 
 pub within_and : (place w : ℕ) (b : Bool) → place < w → (ltb place w && b) ≡ b
 within_and place w b lt = ap (λ t. t && b) (lt-ltb place w lt)
-
-or_false : (x : Bool) → x ≡ (x || false)
-or_false true = refl
-or_false false = refl
-
-or_swap : (x y : Bool) → (x || y) ≡ (y || x)
-or_swap true true = refl
-or_swap true false = refl
-or_swap false true = refl
-or_swap false false = refl
 
 -- what a step at k makes of a cell
 abbrev pub via : ℕ → List (ℕ → Bool) → ℕ → ℕ → Bool
@@ -37,10 +28,12 @@ Stepping w k old new i =
 
 module _ {S R : Type 0} (s : Sort S R) where
   -- what a row is read as, where it lies in the table
+  pub cell_at : (table : List R) (i j : ℕ) (d : R) → i < length table → cell (sets_of s table) i j ≡ s.reads (get_or table i d) j
+  cell_at table i j d lt = ap (λ f. f j) (get_or-map s.reads table i d (λ _. false) lt)
+
   pub cell_read : (table : List R) (i j : ℕ) (x : R) → i < length table → x ≡ get_or table i x →
       cell (sets_of s table) i j ≡ s.reads x j
-  cell_read table i j x lt is =
-      ap (λ f. f j) (get_or-map s.reads table i x (λ _. false) lt) ∙ ap (λ y. s.reads y j) (sym is)
+  cell_read table i j x lt is = cell_at table i j x lt ∙ ap (λ y. s.reads y j) (sym is)
 
   pub cell_written : (table : List R) (i j : ℕ) (x : R) → i < length table → cell (sets_of s (set table i x)) i j ≡ s.reads x j
   cell_written table i j x lt =
@@ -60,20 +53,15 @@ module _ {S R : Type 0} (s : Sort S R) where
   put_cells table i p x lt has a b ha hb =
       elim (cases_eq a i) [
         | inl e ↦
-            rw (e, eq-eqb i i refl) (cell_written table i b x lt ∙ has b hb ∙ or_swap (eqb b p) (cell (sets_of s table) i b))
-        | inr ne ↦ rw (ne_eqb a i ne) (cell_kept table i a b x ne ∙ or_false (cell (sets_of s table) a b))
+            rw (e, eq-eqb i i refl) (cell_written table i b x lt ∙ has b hb ∙ or_comm (eqb b p) (cell (sets_of s table) i b))
+        | inr ne ↦ rw (ne_eqb a i ne) (cell_kept table i a b x ne ∙ sym (or-false (cell (sets_of s table) a b)))
       ]
 
-  -- row i is emptied
-  pub clear_more : (table : List R) (w i : ℕ) (x : R) → i < length table →
-      ((b : ℕ) → b < w → s.reads x b ≡ false) →
-      ((a b : ℕ) → a < i → b < w → cell (sets_of s table) a b ≡ false) →
-      (a b : ℕ) → a < i + 1 → b < w → cell (sets_of s (set table i x)) a b ≡ false
-  clear_more table w i x lt none below a b ha hb =
-      elim (cases_eq a i) [
-        | inl e ↦ rw e (cell_written table i b x lt ∙ none b hb)
-        | inr ne ↦ cell_kept table i a b x ne ∙ below a b (omega arith) hb
-      ]
+  -- copies of an empty row
+  pub copies_empty : (n : ℕ) (x : R) → Agree s.width (s.reads x) (λ _. false) → Empty s.width (sets_of s (replicate n x))
+  copies_empty zero x none i j hi hj = refl
+  copies_empty (suc n) x none zero j hi hj = none j hj
+  copies_empty (suc n) x none (suc i) j hi hj = copies_empty n x none i j (omega arith) hj
 
   module _ (w k : ℕ) (old : List (ℕ → Bool)) (table : List R) (i : ℕ) (done : Stepping w k old (sets_of s table) i) where
     pub step-joins : (x : R) → i < length table → cell (sets_of s table) i k ≡ true →
@@ -97,7 +85,7 @@ module _ {S R : Type 0} (s : Sort S R) where
           elim (cases_eq a i) [
             | inl e ↦
                 let met : cell old i k ≡ false = sym (done.1 i k (omega arith)) ∙ lacks in
-                rw (e, met) (done.1 i b (omega arith) ∙ or_false (cell old i b))
+                rw (e, met) (done.1 i b (omega arith) ∙ sym (or-false (cell old i b)))
             | inr ne ↦ done.0 a b (omega arith) hb
           ],
       λ a b ha. done.1 a b (omega arith),

@@ -1,5 +1,7 @@
 -- The table before it is closed, and what stands behind it.
-use Rattle.std.proofs.Common.{◌≡◌, ℕ, zero, suc, ◌+◌, ◌<◌, Bool, true, false, cond, ◌&&◌, ◌||◌, eqb, List, [], ◌∷◌, ◌++◌, map, length, get_or, take, sym, refl, ap, ◌∙◌, inl, inr, arith}
+use Rattle.std.proofs.Common.{◌≡◌, ℕ, zero, suc, ◌+◌, ◌<◌, Bool, true, cond, ◌&&◌, ◌||◌, eqb, List, [], ◌∷◌, map, length, get_or, take, find, Some, sym, refl, ap, ◌∙◌, inl, inr, arith}
+use Rattle.std.specs.Option.{option_map_or}
+use Rattle.std.proofs.lemmas.List.Recursion.{or_push}
 use Rattle.std.proofs.lemmas.List.{take_more, length-map}
 use Rattle.std.proofs.lemmas.Bool.{false≢true, or_cases, or_left, or_right, and_parts, and_from, eqb-true, eq-eqb, ne_eqb, cases_Bool}
 use Rattle.std.proofs.lemmas.Bool.Decides.{nat_tests}
@@ -10,6 +12,8 @@ use Rattle.descent.specs.Lines.{serials_of, places_of, has_line, stands, Distinc
 use Rattle.descent.specs.Closure.{Placed, JustBelow, Direct}
 use Rattle.descent.proofs.Lines.{line_here, line_later, line_stands_at, line_cases, stands_more, stands_at, stands_position}
 use Rattle.descent.proofs.Proper.{proper_placed, joining-line}
+use Rattle.search.specs.Order.{Cut}
+use Rattle.search.proofs.Halving.{cut_at}
 use Rattle.closing.specs.Direct.{found, place_of, serial_at, own, linked, direct}
 
 -- where keys are different, the value by a kind's key is that kind's
@@ -17,11 +21,12 @@ pub found_at : (key value : Kind → ℕ) (kinds : List Kind) → Distinct (map 
     found key value kinds (get_or (map key kinds) a 0) ≡ get_or (map value kinds) a 0
 found_at key value [] apart a lt = absurd (omega arith)
 found_at key value (k ∷ ks) apart zero lt =
-    ap (λ b. cond b (value k) (found key value ks (key k))) (eq-eqb (key k) (key k) refl)
+    ap (λ b. option_map_or value (cond b (Some k) (find (λ y. eqb (key y) (key k)) ks)) 0) (eq-eqb (key k) (key k) refl)
 found_at key value (k ∷ ks) apart (suc a) lt =
     let x = get_or (map key ks) a 0 in
     let inside : suc a < length (map key (k ∷ ks)) = simp length-map lt in
-    ap (λ b. cond b (value k) (found key value ks x)) (ne_eqb (key k) x (λ e. apart 0 (suc a) (omega arith) inside e))
+    ap (λ b. option_map_or value (cond b (Some k) (find (λ y. eqb (key y) x) ks)) 0)
+    (ne_eqb (key k) x (λ e. apart 0 (suc a) (omega arith) inside e))
     ∙ found_at key value ks (λ i j l h e. apart (suc i) (suc j) (omega arith) (omega arith) e) a (omega arith)
 
 own_both : (i j p : ℕ) (s : Bool) → (eqb i j && (s || eqb p i)) ≡ ((eqb i j && s) || (eqb i p && eqb j p))
@@ -32,30 +37,14 @@ pub own_more : (places : List ℕ) (n i j : ℕ) → n < length places →
 own_more places n i j lt =
     ap (λ b. eqb i j && b) (stands_more i places n lt) ∙ own_both i j (get_or places n 0) (stands i (take n places))
 
-or_false : (x : Bool) → (x || false) ≡ x
-or_false true = refl
-or_false false = refl
-
-pub or_assoc : (x y z : Bool) → ((x || y) || z) ≡ (x || (y || z))
-or_assoc true y z = refl
-or_assoc false y z = refl
-
-linked_append : (kinds : List Kind) (ls ms : List Line) (i j : ℕ) →
-    linked kinds (ls ++ ms) i j ≡ (linked kinds ls i j || linked kinds ms i j)
-linked_append kinds [] ms i j = refl
-linked_append kinds (l ∷ ls) ms i j =
-    let here = eqb i (place_of kinds l.parent) && eqb j (place_of kinds l.child) in
-    ap (λ b. here || b) (linked_append kinds ls ms i j) ∙ sym (or_assoc here (linked kinds ls i j) (linked kinds ms i j))
-
 pub linked_more : (kinds : List Kind) (ls : List Line) (n i j : ℕ) (d : Line) → n < length ls →
     linked kinds (take (n + 1) ls) i j
     ≡ (linked kinds (take n ls) i j
     || (eqb i (place_of kinds (get_or ls n d).parent) && eqb j (place_of kinds (get_or ls n d).child)))
 linked_more kinds ls n i j d lt =
-    let here = eqb i (place_of kinds (get_or ls n d).parent) && eqb j (place_of kinds (get_or ls n d).child) in
     ap (λ xs. linked kinds xs i j) (take_more ls n d lt)
-    ∙ linked_append kinds (take n ls) (get_or ls n d ∷ []) i j
-    ∙ ap (λ b. linked kinds (take n ls) i j || b) (or_false here)
+    ∙ or_push (λ xs. linked kinds xs i j) (λ l. eqb i (place_of kinds l.parent) && eqb j (place_of kinds l.child))
+    refl (λ l rest. refl) (take n ls) (get_or ls n d)
 
 linked-line : (kinds : List Kind) (ls : List Line) (c p : ℕ) → has_line c p ls ≡ true →
     linked kinds ls (place_of kinds p) (place_of kinds c) ≡ true
@@ -112,6 +101,15 @@ module _ (st : Standing) where
       let q = stands_position x (serials_of st.kinds.now) h in
       let lt : q.0 < length st.kinds.now = simp length-map at q.1 in
       (q.0, q.1, q.2, rw q.2 at (place_at q.0 lt))
+
+  -- the cut of a serial that stands is the index of its kind
+  pub cut-stands : (x cut : ℕ) → stands x (serials_of st.kinds.now) ≡ true → Cut (serials_of st.kinds.now) x cut →
+      (cut < length st.kinds.now) × (place_of st.kinds.now x ≡ get_or (places_of st.kinds.now) cut 0)
+  cut-stands x cut h c =
+      let q = stands-place x h in
+      let same = cut_at 0 (serials_of st.kinds.now) x cut q.0 st.rising c q.1 q.2 in
+      let inside : q.0 < length st.kinds.now = simp length-map at q.1 in
+      (omega arith, rw same q.3)
 
   pub place-below : (x : ℕ) → stands x (serials_of st.kinds.now) ≡ true → place_of st.kinds.now x < st.width
   place-below x h = let q = stands-place x h in rw q.3 (standing_placed.below q.0 q.1)

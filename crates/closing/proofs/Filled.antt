@@ -1,18 +1,20 @@
 -- The closed table, and what it tells of lines.
-use Rattle.std.proofs.Common.{◌≡◌, ℕ, suc, ◌^◌, ◌<◌, ◌≤◌, Bool, true, false, List, [], ◌∷◌, map, length, get_or, sym, refl, ap, ◌∙◌, inl, inr, arith}
-use Rattle.std.proofs.lemmas.List.{get_or-map, length-map}
-use Rattle.std.proofs.lemmas.Bool.{or_from, cases_eq, cases_lt}
+use Rattle.std.proofs.Common.{◌≡◌, ℕ, suc, ◌+◌, ◌-◌, ◌*◌, ◌^◌, ◌<◌, ◌≤◌, Bool, true, false, List, [], ◌∷◌, map, length, get_or, take, drop, refl, ap, ◌∙◌, inl, inr, arith}
+use Rattle.std.proofs.lemmas.List.{get_or-map, length-map, take_rest, length-drop, get_or-drop}
+use Rattle.std.proofs.lemmas.Bool.{or_from, cases_lt, both_ways}
 use Rattle.descent.specs.declared.line.Line.{Line}
 use Rattle.descent.specs.declared.standing.Standing.{Standing}
-use Rattle.descent.specs.Lines.{serials_of, places_of, has_line, stands}
-use Rattle.descent.specs.Descent.{descends}
+use Rattle.descent.specs.Lines.{serials_of, places_of, stands}
+use Rattle.descent.specs.Descent.{descends, LeadsUp, one, more}
 use Rattle.descent.specs.Rings.{some_round}
 use Rattle.descent.specs.Order.{line_key}
 use Rattle.descent.specs.Closure.{closure}
 use Rattle.descent.proofs.Lines.{line_position}
-use Rattle.descent.proofs.Proper.{rising_later}
+use Rattle.descent.proofs.Descent.{descends_decided, leads_first}
+use Rattle.descent.proofs.Proper.{rising_upto, joining-line}
 use Rattle.descent.proofs.Rows.{stands-below}
 use Rattle.descent.proofs.Closure.{closure_agrees, closure-descends, closure_only_places}
+use Rattle.search.specs.Order.{Cut}
 use Rattle.closing.specs.Tables.{cell, Cells, Filled}
 use Rattle.closing.specs.Direct.{place_of, direct}
 use Rattle.closing.proofs.Direct.{line_at, standing_placed, stands-place, line_ends, direct_right}
@@ -61,49 +63,61 @@ module _ (st : Standing) where
   pub serial_low : (x : ℕ) → stands x (serials_of st.kinds.now) ≡ true → x < 2 ^ 28
   serial_low x h = stands-below (2 ^ 28) (serials_of st.kinds.now) x st.serials h
 
-  -- children do not fall along the lines
-  pub children_rise : (a b : ℕ) → a ≤ b → b < length st.lines.now →
-      get_or (map (λ l. l.child) st.lines.now) a 0 ≤ get_or (map (λ l. l.child) st.lines.now) b 0
-  children_rise a b le lt =
+  -- how many lines there are from `first` on
+  pub rest_size : (first : ℕ) → length (take (length st.lines.now - first) (drop first st.lines.now)) ≡ length st.lines.now - first
+  rest_size first = ap length (take_rest st.lines.now first) ∙ length-drop first st.lines.now
+
+  -- the line at an index of the lines from `first` on
+  pub rest_at : (first i : ℕ) → first ≤ length st.lines.now → i < length (take (length st.lines.now - first) (drop first st.lines.now)) →
+      (first + i < length st.lines.now)
+      × (get_or (take (length st.lines.now - first) (drop first st.lines.now)) i (record { child = 0; parent = 0 }) ≡ line_at st.lines.now (first + i))
+  rest_at first i within lt =
       let ls = st.lines.now in
-      let d : Line = record { child = 0; parent = 0 } in
-      let ea = get_or-map (λ l. l.child) ls a d 0 (omega arith) in
-      let eb = get_or-map (λ l. l.child) ls b d 0 lt in
-      elim (cases_eq a b) [
-        | inl e ↦ rw e (omega arith)
-        | inr ne ↦
-            let inside : b < length (map line_key ls) = simp length-map lt in
-            let up = rising_later 0 (map line_key ls) st.ordered a b (omega arith) inside in
-            let ka = get_or-map line_key ls a d 0 (omega arith) in
-            let kb = get_or-map line_key ls b d 0 lt in
-            let low = serial_low (line_at ls b).parent (line_ends st b lt).1 in
-            omega arith
-      ]
+      let size = rest_size first in
+      (omega arith, rw (take_rest ls first) (get_or-drop first ls i (record { child = 0; parent = 0 })))
 
-  -- what a look at the cell of a line tells
-  pub line_tells : (rows : List (ℕ → Bool)) →
-      Filled st.width (serials_of st.kinds.now) (places_of st.kinds.now) st.lines.now rows →
-      (n i j : ℕ) (b : Bool) → n < length st.lines.now →
-      i ≡ place_of st.kinds.now (line_at st.lines.now n).child →
-      j ≡ place_of st.kinds.now (line_at st.lines.now n).parent →
-      cell rows i j ≡ b → descends st.lines.now (line_at st.lines.now n).parent (line_at st.lines.now n).child ≡ b
-  line_tells rows f n i j b lt ei ej h =
-      let l = line_at st.lines.now n in
-      let ends = line_ends st n lt in
-      sym (filled_at rows f l.child l.parent ends.0 ends.1) ∙ (rw (ei, ej) at h)
+  -- what another leads up to stands
+  pub led_stands : {k m : ℕ} → LeadsUp st.lines.now k m → stands m (serials_of st.kinds.now) ≡ true
+  led_stands (one h) = (joining-line (serials_of st.kinds.now) st.lines.now st.joins _ _ h).1
+  led_stands (more h u) = led_stands u
 
-  -- the lines of a kind stand together: none before n passes the test, and none from n on is the kind's
-  pub parents_fail : (kind n : ℕ) (test : ℕ → Bool) →
-      ((m : ℕ) → m < n → (line_at st.lines.now m).child ≡ kind → test (line_at st.lines.now m).parent ≡ false) →
-      ((m : ℕ) → n ≤ m → m < length st.lines.now → (line_at st.lines.now m).child ≡ kind → ⊥) →
-      (p : ℕ) → has_line kind p st.lines.now ≡ true → test p ≡ false
-  parents_fail kind n test before from p h =
-      let q = line_position kind p st.lines.now (record { child = 0; parent = 0 }) h in
-      elim (cases_lt q.0 n) [
-        | inl lt ↦ rw q.3 at (before q.0 lt q.2)
-        | inr le ↦ absurd (from q.0 le q.1 q.2)
-      ]
+  -- the key of a line, as a sum that arithmetic sees
+  key-at : (n : ℕ) → n < length st.lines.now →
+      (get_or (map line_key st.lines.now) n 0 ≡ (line_at st.lines.now n).child * 2 ^ 32 + (line_at st.lines.now n).parent)
+      × ((line_at st.lines.now n).parent < 2 ^ 32)
+  key-at n lt =
+      let low = serial_low (line_at st.lines.now n).parent (line_ends st n lt).1 in
+      (get_or-map line_key st.lines.now n (record { child = 0; parent = 0 }) 0 lt, omega arith)
 
-  pub children_at : (n : ℕ) → n < length st.lines.now →
-      get_or (map (λ l. l.child) st.lines.now) n 0 ≡ (line_at st.lines.now n).child
-  children_at n lt = get_or-map (λ l. l.child) st.lines.now n (record { child = 0; parent = 0 }) 0 lt
+  -- a kind that leads up does so by one of its lines; these stand together, from the cut on
+  module _ (kind top first : ℕ) (up : LeadsUp st.lines.now kind top)
+      (cut : Cut (map line_key st.lines.now) (line_key (record { child = kind; parent = 0 })) first) where
+    pub leading : (n : ℕ) × (first ≤ n) × (n < length st.lines.now) × ((line_at st.lines.now n).child ≡ kind)
+        × (descends st.lines.now (line_at st.lines.now n).parent top ≡ true)
+    leading =
+        let ls = st.lines.now in
+        let f = leads_first up in
+        let q = line_position kind f.0 ls (record { child = 0; parent = 0 }) f.1 in
+        let key = key-at q.0 q.1 in
+        let late : first ≤ q.0 = elim (cases_lt q.0 first) [
+          | inl lt ↦ let low = cut.before q.0 lt in absurd (omega (arith, key.0, q.2))
+          | inr le ↦ le
+        ] in
+        (q.0, late, q.1, q.2, rw q.3 ((descends_decided ls f.0 top).1 f.2))
+
+    -- where no line before it leads on, a line from the cut on is the kind's
+    pub same_child : (n : ℕ) → first ≤ n → n < length st.lines.now →
+        ((m : ℕ) → first ≤ m → m < n → descends st.lines.now (line_at st.lines.now m).parent top ≡ false) → (line_at st.lines.now n).child ≡ kind
+    same_child n le lt none =
+        let ls = st.lines.now in
+        let q = leading in
+        elim (cases_lt q.0 n) [
+          | inl before ↦ absurd (both_ways (descends ls (line_at ls q.0).parent top) (none q.0 q.1 before) q.4)
+          | inr after ↦
+              let here = key-at n lt in
+              let there = key-at q.0 q.2 in
+              let long = length-map ls line_key in
+              let low = cut.after n le (omega arith) in
+              let high = rising_upto 0 (map line_key ls) st.ordered n q.0 after (omega (arith, q.2)) in
+              omega (arith, here.0, here.1, there.0, there.1, q.3)
+        ]

@@ -1,5 +1,4 @@
 pub mod Cells
-pub mod Cuts
 pub mod Direct
 pub mod Filled
 pub mod Trails

@@ -1,7 +1,7 @@
 -- The words of a ring, as they are written one by one.
 use Rattle.std.proofs.Common.{◌≡◌, ℕ, ◌+◌, ◌^◌, ◌<◌, true, eqb, ltb, List, [], ◌∷◌, ◌++◌, map, length, get_or, drop, set, sym, ap, ◌∙◌, inl, inr, mod-eq_of_lt, arith}
 use Rattle.std.proofs.lemmas.List.{drop_more, set_at, append_assoc}
-use Rattle.std.proofs.lemmas.Bool.{and_parts, ltb-true, cases_Bool, cond-true, cond-false}
+use Rattle.std.proofs.lemmas.Bool.{and_parts, ltb-true, cases_Bool}
 use Rattle.descent.specs.declared.kind.Kind.{Kind}
 use Rattle.descent.specs.declared.standing.Standing.{Standing}
 use Rattle.descent.specs.Proper.{below}
@@ -24,10 +24,7 @@ found_low n key value [] x pos b = pos
 found_low n key value (k ∷ ks) x pos b =
     let p = and_parts (ltb (value k) n) (below n (map value ks)) b in
     let here = ltb-true (value k) n p.0 in
-    elim (cases_Bool (eqb (key k) x)) [
-      | inl e ↦ rw (cond-true (eqb (key k) x) (value k) (found key value ks x) e) here
-      | inr e ↦ rw (cond-false (eqb (key k) x) (value k) (found key value ks x) e) (found_low n key value ks x pos p.1)
-    ]
+    elim (cases_Bool (eqb (key k) x)) [ inl e ↦ rw e here | inr e ↦ rw e (found_low n key value ks x pos p.1) ]
 
 pub serial_at_low : (st : Standing) (p : ℕ) → serial_at st.kinds.now p < 2 ^ 28
 serial_at_low st p = found_low (2 ^ 28) (λ k. k.place) (λ k. k.serial) st.kinds.now p (omega arith) st.serials

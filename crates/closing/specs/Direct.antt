@@ -1,13 +1,13 @@
 -- What a table has before it is closed: each kind's own place, and the place of each child.
-use Rattle.std.specs.Prelude.{ℕ, Bool, false, cond, ◌&&◌, ◌||◌, List, [], ◌∷◌, ◌==◌}
+use Rattle.std.specs.Prelude.{ℕ, Bool, false, ◌&&◌, ◌||◌, List, [], ◌∷◌, ◌==◌, find}
+use Rattle.std.specs.Option.{option_map_or}
 use Rattle.descent.specs.declared.kind.Kind.{Kind}
 use Rattle.descent.specs.declared.line.Line.{Line}
 use Rattle.descent.specs.Lines.{places_of, stands}
 
 -- the value of the first kind that has this key; 0 where none has
 abbrev pub found : (Kind → ℕ) → (Kind → ℕ) → List Kind → ℕ → ℕ
-found key value [] x = 0
-found key value (k ∷ ks) x = cond (key k == x) (value k) (found key value ks x)
+found key value kinds x = option_map_or value (find (λ k. key k == x) kinds) 0
 
 -- the place of the kind with this serial
 abbrev pub place_of : List Kind → ℕ → ℕ

@@ -13,3 +13,10 @@ pub record Looped (kinds : List Kind) (ls : List Line) (met : List ℕ) (at : �
   pub places : met ≡ map (place_of kinds) trail
   pub again : stands at met ≡ true
   pub ring : (s : ℕ) → s < length met → slice_index met s ≡ at → Ring ls (drop s trail)
+
+-- the places are those of a ring of standing kinds
+pub record Round (kinds : List Kind) (ls : List Line) (places : List ℕ) : Type 0 where
+  pub trail : List ℕ
+  pub standing : (i : ℕ) → i < length trail → stands (slice_index trail i) (serials_of kinds) ≡ true
+  pub met : places ≡ map (place_of kinds) trail
+  pub ring : Ring ls trail

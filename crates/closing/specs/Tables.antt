@@ -1,5 +1,5 @@
 -- A table as the sets of places that its rows are read as, and the table that a closing fills.
-use Rattle.std.specs.Prelude.{◌≡◌, ℕ, ◌<◌, Bool, false, ◌⊎◌, List, map, length, slice_index, slice_index_or}
+use Rattle.std.specs.Prelude.{◌≡◌, ℕ, ◌<◌, ◌≤◌, Bool, false, ◌⊎◌, List, map, length, slice_index, slice_index_or}
 use Rattle.codes.specs.Sorts.{Sort}
 use Rattle.descent.specs.declared.line.Line.{Line}
 use Rattle.descent.specs.Lines.{stands}
@@ -16,6 +16,10 @@ cell rows i j = slice_index_or rows i (λ _. false) j
 -- the rows have exactly these cells at places below w
 abbrev pub Cells : ℕ → List (ℕ → Bool) → (ℕ → ℕ → Bool) → Type 0
 Cells w rows truth = (i j : ℕ) → i < w → j < w → cell rows i j ≡ truth i j
+
+-- a table of one row for each of w places, by a sort that has these places
+abbrev pub FitsWidth : ℕ → ℕ → ℕ → Type 0
+FitsWidth w rows places = (rows ≡ w) × (w ≤ places)
 
 -- every row below w is empty
 abbrev pub Empty : ℕ → List (ℕ → Bool) → Type 0

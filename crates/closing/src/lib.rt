@@ -4,9 +4,11 @@
 mod closing;
 mod fill;
 mod find;
+mod lists;
 mod marks;
 mod ring;
 mod rows;
 mod told;
 
 pub use closing::close;
+pub use lists::ClosingLists;

@@ -6,20 +6,12 @@ pub(crate) struct Marks<'a> {
     pub(crate) bytes: &'a mut [u8],
 }
 
-fn wipe(bytes: &mut [u8])
-    ensures { bytes.new ≡ replicate (length bytes.old) 0 }
-{
-    for byte in bytes.iter_mut() {
-        *byte = 0;
-    }
-}
-
 impl<'a> Marks<'a> {
     pub(crate) fn over(bytes: &'a mut [u8]) -> Marks<'a>
         ensures clear { result.bytes.now ≡ replicate (length bytes.old) 0 }
         ensures lender { result.bytes.ghost_name ≡ bytes.entry.ghost_name }
     {
-        wipe(bytes);
+        bytes.fill(0);
         Marks { bytes }
     }
 
@@ -43,7 +35,7 @@ impl Drop for Marks<'_> {
     fn drop(self)
         ensures { self.exit.0.now ≡ replicate (length self.entry.bytes.now) 0 }
     {
-        wipe(self.bytes);
+        self.bytes.fill(0);
         let Marks { bytes: _ } = self;
     }
 }

@@ -1,53 +1,58 @@
-// Looking into a lent table, and changing one row of it.
-ghost use Rattle.std.specs.Prelude.{◌≡◌, ℕ, ◌<◌, ◌≤◌, Bool, true, false, ◌&&◌, ◌||◌, length, drop, ◌==◌};
+// Looking into the rows of a table, and changing them.
+ghost use Rattle.std.specs.Prelude.{◌≡◌, ℕ, ◌<◌, ◌≤◌, Bool, false, ◌&&◌, ◌||◌, length, replicate, ◌==◌};
 ghost use Rattle.closing.specs.Tables.{sets_of, cell, Cells, Empty};
 
 use codes::{Code, Truth};
 
 // Whether row i has place j.
-pub(crate) fn has<C: Code + Drop>(table: &[C::Row], i: usize, j: usize) -> bool
-    requires { (i < length table.now) × (j < C.Truth.sort.width) }
-    ensures { result ≡ cell (sets_of C.Truth.sort table.now) i j }
+pub(crate) fn has<C: Code + Drop>(rows: &[C::Row], i: usize, j: usize) -> bool
+    requires row { i < length rows.now }
+    requires place { j < C.Truth.sort.width }
+    ensures { result ≡ cell (sets_of C.Truth.sort rows.now) i j }
 {
-    C::read(table[i]).has(j)
+    C::read(rows[i]).has(j)
 }
 
 // Puts place j into row i.
-pub(crate) fn put<C: Code + Drop>(table: &mut [C::Row], i: usize, j: usize)
-    requires { (i < length table.old) × (j < C.Truth.sort.width) }
-    ensures cells { Cells C.Truth.sort.width (sets_of C.Truth.sort table.new) (λ a b. cell (sets_of C.Truth.sort table.old) a b || (a == i && b == j)) }
-    ensures beyond { (n : ℕ) → i < n → drop n table.new ≡ drop n table.old }
+pub(crate) fn put<C: Code + Drop>(rows: &mut [C::Row], i: usize, j: usize)
+    requires row { i < length rows.old }
+    requires place { j < C.Truth.sort.width }
+    ensures { Cells C.Truth.sort.width (sets_of C.Truth.sort rows.new) (λ a b. cell (sets_of C.Truth.sort rows.old) a b || (a == i && b == j)) }
 {
-    let mut row = C::read(table[i]);
+    let mut row = C::read(rows[i]);
     let _ = row.put(j);
-    table[i] = row.write();
+    rows[i] = row.write();
 }
 
-// Makes every row below w empty.
-pub(crate) fn clear<C: Code + Drop>(table: &mut [C::Row], w: usize)
-    requires { (w ≤ length table.old) × (w ≤ C.Truth.sort.width) }
-    ensures empty { Empty w (sets_of C.Truth.sort table.new) }
-    ensures beyond { drop w table.new ≡ drop w table.old }
+// What a slice's `fill` does, which asks for a clone that never fails; of a row it is only known that it is copied.
+fn fill_copied<R: Copy>(rows: &mut [R], row: R)
+    ensures { rows.new ≡ replicate (length rows.old) row }
 {
-    let empty = C::empty();
-    let row = empty.write();
-    for i in 0..w {
-        table[i] = row;
+    for slot in rows.iter_mut() {
+        *slot = row;
     }
 }
 
-// Row i, where it has k, also gets what row k has.
-pub(crate) fn step<C: Code + Drop>(table: &mut [C::Row], w: usize, k: usize)
-    requires { (k < w) × ((w ≤ length table.old) × (w ≤ C.Truth.sort.width)) }
-    ensures cells { Cells w (sets_of C.Truth.sort table.new) (λ i j. cell (sets_of C.Truth.sort table.old) i j || (cell (sets_of C.Truth.sort table.old) i k && cell (sets_of C.Truth.sort table.old) k j)) }
-    ensures beyond { drop w table.new ≡ drop w table.old }
+// Makes every row empty.
+pub(crate) fn clear<C: Code + Drop>(rows: &mut [C::Row])
+    ensures { Empty C.Truth.sort.width (sets_of C.Truth.sort rows.new) }
 {
-    let pivot = C::read(table[k]);
-    for i in 0..w {
-        let mut row = C::read(table[i]);
+    let empty = C::empty();
+    fill_copied(rows, empty.write());
+}
+
+// Each row that has k also gets what row k has.
+pub(crate) fn step<C: Code + Drop>(rows: &mut [C::Row], k: usize)
+    requires row { k < length rows.old }
+    requires enough_places { length rows.old ≤ C.Truth.sort.width }
+    ensures { Cells (length rows.old) (sets_of C.Truth.sort rows.new) (λ i j. cell (sets_of C.Truth.sort rows.old) i j || (cell (sets_of C.Truth.sort rows.old) i k && cell (sets_of C.Truth.sort rows.old) k j)) }
+{
+    let pivot = C::read(rows[k]);
+    for slot in rows.iter_mut() {
+        let mut row = C::read(*slot);
         if row.has(k) {
             row.join(&pivot);
-            table[i] = row.write();
+            *slot = row.write();
         }
     }
 }

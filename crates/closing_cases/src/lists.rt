@@ -14,12 +14,36 @@ const LOW: usize = 3;
 
 const HIGH: usize = 511;
 
-#[derive(Clone, Copy)]
+// Rows, bytes, places and words that a list is longer than it has to be.
+const MORE: usize = 2;
+
+#[derive(Clone, Copy, Default)]
 pub struct Lengths {
     pub table: usize,
     pub marks: usize,
     pub walk: usize,
     pub ring: usize,
+}
+
+impl Lengths {
+    // What closing needs at this width.
+    pub fn needed(width: usize) -> Lengths {
+        Lengths {
+            table: width,
+            marks: width,
+            walk: width,
+            ring: width.saturating_add(1),
+        }
+    }
+
+    pub fn longer(self) -> Lengths {
+        Lengths {
+            table: self.table.saturating_add(MORE),
+            marks: self.marks.saturating_add(MORE),
+            walk: self.walk.saturating_add(MORE),
+            ring: self.ring.saturating_add(MORE),
+        }
+    }
 }
 
 #[derive(Drop)]
@@ -39,26 +63,12 @@ fn junk_row<C: Code + Drop>() -> C::Row {
 
 fn is_junk<C: Code + Drop>(row: C::Row) -> bool {
     let code = C::read(row);
-    let mut right = true;
-    for place in 0..C::places() {
-        if code.has(place) != (place == LOW || place == HIGH) {
-            right = false;
-        }
-    }
-    right
-}
-
-fn make_table<C: Code + Drop>(heap: Global, length: usize) -> io::Result<Vec<C::Row>> {
-    let mut table = Vec::new(heap);
-    for _ in 0..length {
-        table.push(junk_row::<C>())?;
-    }
-    Ok(table)
+    (0..C::places()).all(|place| code.has(place) == (place == LOW || place == HIGH))
 }
 
 pub fn make_lists<C: Code + Drop>(heap: Global, lengths: Lengths) -> io::Result<Lists<C>> {
     Ok(Lists {
-        table: make_table::<C>(heap, lengths.table)?,
+        table: vec![in heap; junk_row::<C>(); lengths.table]?,
         marks: vec![in heap; BYTE; lengths.marks]?,
         walk: vec![in heap; PLACE; lengths.walk]?,
         ring: vec![in heap; WORD; lengths.ring]?,
@@ -66,60 +76,22 @@ pub fn make_lists<C: Code + Drop>(heap: Global, lengths: Lengths) -> io::Result<
 }
 
 fn rows_kept<C: Code + Drop>(table: &[C::Row], from: usize) -> bool {
-    let mut kept = true;
-    for row in table.iter().skip(from) {
-        if !is_junk::<C>(*row) {
-            kept = false;
-        }
-    }
-    kept
+    table.iter().skip(from).all(|row| is_junk::<C>(*row))
 }
 
-fn marks_kept(marks: &[u8], from: usize) -> bool {
-    let mut kept = true;
-    for mark in marks.iter().skip(from) {
-        if *mark != BYTE {
-            kept = false;
-        }
-    }
-    kept
-}
-
-fn walk_kept(walk: &[usize], from: usize) -> bool {
-    let mut kept = true;
-    for place in walk.iter().skip(from) {
-        if *place != PLACE {
-            kept = false;
-        }
-    }
-    kept
-}
-
-fn ring_kept(ring: &[u32], from: usize) -> bool {
-    let mut kept = true;
-    for word in ring.iter().skip(from) {
-        if *word != WORD {
-            kept = false;
-        }
-    }
-    kept
+fn kept<T: Copy + Eq>(list: &[T], from: usize, junk: T) -> bool {
+    list.iter().skip(from).all(|one| *one == junk)
 }
 
 // Whether the junk still stands from these lengths on.
 pub fn kept_beyond<C: Code + Drop>(lists: &Lists<C>, from: Lengths) -> bool {
     rows_kept::<C>(&lists.table, from.table)
-        && marks_kept(&lists.marks, from.marks)
-        && walk_kept(&lists.walk, from.walk)
-        && ring_kept(&lists.ring, from.ring)
+        && kept(&lists.marks, from.marks, BYTE)
+        && kept(&lists.walk, from.walk, PLACE)
+        && kept(&lists.ring, from.ring, WORD)
 }
 
 // Whether the marks below this length are zero.
 pub fn marks_zero(marks: &[u8], length: usize) -> bool {
-    let mut zero = true;
-    for mark in marks.iter().take(length) {
-        if *mark != 0 {
-            zero = false;
-        }
-    }
-    zero
+    marks.iter().take(length).all(|mark| *mark == 0)
 }

@@ -1,20 +1,15 @@
 -- The set of a name is what descends from it, and the kinds that answer a question are the uppermost ones for its set.
-use Rattle.std.proofs.Common.{◌≡◌, ℕ, Bool, ◌&&◌, List, [], ◌∷◌, filter, sym, refl, ◌∙◌, arith}
+use Rattle.std.proofs.Common.{◌≡◌, sym, ◌∙◌, arith}
 use Rattle.std.proofs.lemmas.Bool.{and_parts, and_from}
-use Rattle.std.proofs.lemmas.Bool.Decides.{nat_tests}
 use Rattle.descent.specs.Lines.{stands}
 use Rattle.descent.specs.Coverage.{uppermost}
 use Rattle.descent.proofs.Descent.{descends_decided}
 use Rattle.descent.proofs.Coverage.{uppermost_decided}
+use Rattle.descent.proofs.Rows.{kept_stands}
 use Rattle.words.specs.Words.{kind_number, low_bits}
 use Rattle.catalogue.specs.Ledger.{set_of}
 use Rattle.clutch.specs.Clutch.{name}
 use Rattle.clutch.specs.Worked.{NameMeansDescent, AnsweredByUppermost}
-
--- of the kinds that stand in a list, those that pass the test are kept
-kept_stands : (test : ℕ → Bool) (k : ℕ) (xs : List ℕ) → stands k (filter test xs) ≡ (stands k xs && test k)
-kept_stands test k [] = refl
-kept_stands test k (x ∷ xs) = let later = kept_stands test k xs in grind (arith, nat_tests)
 
 pub name_means_descent : NameMeansDescent
 name_means_descent l k m small =

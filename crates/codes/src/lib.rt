@@ -2,9 +2,11 @@
 #![tactic(auto)]
 
 mod truth;
+mod width;
 mod yes_no;
 
 pub use truth::{Code, Truth};
+pub use width::within_width;
 
 // The width of bits and of packets.
 pub const PLACES: usize = 512;

@@ -20,11 +20,11 @@ impl Truth for bool {
     }
 
     fn meet(&mut self, other: &bool) {
-        *self = *self & *other;
+        *self &= *other;
     }
 
     fn join(&mut self, other: &bool) {
-        *self = *self | *other;
+        *self |= *other;
     }
 
     fn complement(&mut self) {

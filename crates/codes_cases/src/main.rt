@@ -56,18 +56,20 @@ fn show_change(
         Ok(()) => println!(rt; "{call} {place}: done"),
         Err(fault) => {
             let told = fault.refusal();
-            let number = told.number;
-            let index = told.index;
-            let by_code = matches!(told.part, Part::Code);
-            println!(rt; "{call} {place}: refused {number} at {index}, by the code: {by_code}")
+            println!(rt;
+                "{call} {place}: refused {} at {}, by the code: {}",
+                told.number,
+                told.index,
+                told.part == Part::Code
+            )
         }
     }
 }
 
 fn with_runs<C: Code>(runs: &[(usize, usize)]) -> C {
     let mut code = C::empty();
-    for run in runs {
-        for place in run.0..run.1 {
+    for (first, after) in runs {
+        for place in *first..*after {
             let _ = code.put(place);
         }
     }
@@ -77,10 +79,8 @@ fn with_runs<C: Code>(runs: &[(usize, usize)]) -> C {
 // Every other place.
 fn alternate<C: Code>() -> C {
     let mut code = C::empty();
-    for place in 0..C::places() {
-        if place % 2 == 0 {
-            let _ = code.put(place);
-        }
+    for place in (0..C::places()).step_by(2) {
+        let _ = code.put(place);
     }
     code
 }
@@ -88,20 +88,17 @@ fn alternate<C: Code>() -> C {
 fn place_cases<C: Code + Copy>(rt: &HostRuntime) -> io::Result<()> {
     let mut code: C = C::empty();
     for place in [0, 63, 64, 511, 512] {
-        let done = code.put(place);
-        show_change(rt, "put", place, done)?;
+        show_change(rt, "put", place, code.put(place))?;
     }
     show(rt, "put", &code)?;
     for place in [63, 511, 512, 100] {
-        let done = code.take(place);
-        show_change(rt, "take", place, done)?;
+        show_change(rt, "take", place, code.take(place))?;
     }
     show(rt, "take", &code)?;
     for from in [0, 1, 64, 65, 511, 512] {
         show_next(rt, &code, from)?;
     }
-    let asked = code.has(512);
-    println!(rt; "has 512: {asked}")
+    println!(rt; "has 512: {}", code.has(512))
 }
 
 fn set_cases<C: Code + Copy>(rt: &HostRuntime) -> io::Result<()> {
@@ -164,24 +161,27 @@ fn yes_no_cases(rt: &HostRuntime) -> io::Result<()> {
     for a in [false, true] {
         for b in [false, true] {
             let mut meet = a;
-            <bool as Truth>::meet(&mut meet, &b);
+            meet.meet(&b);
             let mut join = a;
-            <bool as Truth>::join(&mut join, &b);
+            join.join(&b);
             println!(rt; "{a} {b}: and {meet}, or {join}")?;
         }
         let mut other = a;
-        <bool as Truth>::complement(&mut other);
-        let again = <bool as Truth>::read(<bool as Truth>::write(&a));
-        println!(rt; "not {a}: {other}; read again: {again}")?;
+        other.complement();
+        println!(rt;
+            "not {a}: {other}; read again: {}",
+            <bool as Truth>::read(a.write())
+        )?;
     }
-    let places = <bool as Truth>::places();
-    let empty = <bool as Truth>::empty();
-    println!(rt; "places {places}, empty {empty}")
+    println!(rt;
+        "places {}, empty {}",
+        <bool as Truth>::places(),
+        <bool as Truth>::empty()
+    )
 }
 
 fn show_packets(rt: &HostRuntime, label: &str, packets: &Packets) -> io::Result<()> {
-    let count = packets.count();
-    print!(rt; "{label}: {count} packets")?;
+    print!(rt; "{label}: {} packets", packets.count())?;
     for index in 0..3 {
         match packets.packet(index) {
             Some((first, after)) => print!(rt; " <{first},{after}>")?,
@@ -226,7 +226,7 @@ fn both_ways(rt: &HostRuntime, label: &str, packets: &Packets) -> io::Result<()>
     let bits = bits_of(packets);
     show(rt, label, &bits)?;
     let same = packets_of(&bits).same(packets) && packets_again(packets).same(packets);
-    let words = bits_again(&bits).write() == bits.write();
+    let words = bits_again(&bits) == bits;
     println!(rt; "{label}: the same packets {same}, the same bits {words}")
 }
 
@@ -252,51 +252,25 @@ fn between_cases(rt: &HostRuntime) -> io::Result<()> {
 
 fn row(start: &[u16], len: usize) -> PacketRow {
     let mut bounds = [0; 512];
-    for (k, bound) in start.iter().enumerate() {
-        if k < 512 {
-            bounds[k] = *bound;
-        }
+    for (held, bound) in bounds.iter_mut().zip(start) {
+        *held = *bound;
     }
     PacketRow { bounds, len }
 }
 
+fn show_row(rt: &HostRuntime, label: &str, start: &[u16], len: usize) -> io::Result<()> {
+    show(rt, label, &<Packets as Truth>::read(row(start, len)))
+}
+
 fn row_cases(rt: &HostRuntime) -> io::Result<()> {
     println!(rt; "-- rows")?;
-    show(
-        rt,
-        "kept",
-        &<Packets as Truth>::read(row(&[4, 6, 12, 512], 4)),
-    )?;
-    show(
-        rt,
-        "not rising",
-        &<Packets as Truth>::read(row(&[4, 6, 5, 9], 4)),
-    )?;
-    show(
-        rt,
-        "bounds that are equal",
-        &<Packets as Truth>::read(row(&[4, 6, 6, 9], 4)),
-    )?;
-    show(
-        rt,
-        "an odd count",
-        &<Packets as Truth>::read(row(&[4, 6, 12], 3)),
-    )?;
-    show(
-        rt,
-        "a bound above the width",
-        &<Packets as Truth>::read(row(&[4, 513], 2)),
-    )?;
-    show(
-        rt,
-        "more past the length",
-        &<Packets as Truth>::read(row(&[4, 6, 12, 16], 2)),
-    )?;
-    show(
-        rt,
-        "a length above the row",
-        &<Packets as Truth>::read(row(&[4, 6], 513)),
-    )
+    show_row(rt, "kept", &[4, 6, 12, 512], 4)?;
+    show_row(rt, "not rising", &[4, 6, 5, 9], 4)?;
+    show_row(rt, "bounds that are equal", &[4, 6, 6, 9], 4)?;
+    show_row(rt, "an odd count", &[4, 6, 12], 3)?;
+    show_row(rt, "a bound above the width", &[4, 513], 2)?;
+    show_row(rt, "more past the length", &[4, 6, 12, 16], 2)?;
+    show_row(rt, "a length above the row", &[4, 6], 513)
 }
 
 fn main(rt: HostRuntime) -> io::Result<()> {

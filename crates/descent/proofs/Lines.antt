@@ -1,9 +1,10 @@
 -- What follows from a standing line, and where in a list a kind or a line stands.
 use Rattle.std.proofs.Common.{◌≡◌, ℕ, zero, suc, ◌+◌, ◌<◌, Bool, true, false, ◌&&◌, ◌||◌, eqb, ◌⊎◌, List, [], ◌∷◌, ◌++◌, length, get_or, take, sym, refl, ap, ◌∙◌, inl, inr, arith}
-use Rattle.std.proofs.lemmas.List.{take_more}
+use Rattle.std.proofs.lemmas.List.{take_more, get_or-map, length-map}
 use Rattle.std.proofs.lemmas.Bool.{false≢true, or_cases, and_parts, and_from, or_left, or_right, eqb-true, eq-eqb, cases_order, both_ways, cases_Bool}
+use Rattle.descent.specs.declared.kind.Kind.{Kind}
 use Rattle.descent.specs.declared.line.Line.{Line}
-use Rattle.descent.specs.Lines.{has_line, mentioned, stands, Distinct}
+use Rattle.descent.specs.Lines.{places_of, has_line, mentioned, stands, Distinct}
 
 or_false : (x : Bool) → (x || false) ≡ x
 or_false true = refl
@@ -170,6 +171,10 @@ stands_more k xs i h =
     ap (stands k) (take_more xs i 0 h)
     ∙ stands_append k (take i xs) (get_or xs i 0 ∷ [])
     ∙ ap (λ b. stands k (take i xs) || b) (or_false (eqb (get_or xs i 0) k))
+
+-- a kind's place stands in the row of the places, at the kind's index
+pub place_at : (kinds : List Kind) (i : ℕ) (d : Kind) → i < length kinds → (i < length (places_of kinds)) × (get_or (places_of kinds) i 0 ≡ (get_or kinds i d).place)
+place_at kinds i d lt = (simp length-map lt, get_or-map (λ k. k.place) kinds i d 0 lt)
 
 pub line_more : (c p : ℕ) (ls : List Line) (i : ℕ) (d : Line) → i < length ls →
     has_line c p (take (i + 1) ls)

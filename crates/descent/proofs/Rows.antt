@@ -2,7 +2,8 @@
 use Rattle.std.proofs.Common.{◌≡◌, ℕ, zero, suc, ◌<◌, Bool, true, false, not, ◌&&◌, ◌||◌, eqb, ltb, List, [], ◌∷◌, ◌++◌, map, length, get_or, take, drop, filter, sym, refl, ap, ◌∙◌, subst, ap₂, ⊎_elim, arith}
 use Rattle.std.specs.List.{insert, remove}
 use Rattle.std.proofs.lemmas.List.{map-append, take-map, drop-map, take-append-drop}
-use Rattle.std.proofs.lemmas.Bool.{and_parts, and_from, or_left, or_right, or_cases, eqb-true, eq-eqb, ne_eqb, ltb-true, lt-ltb, cases_eq, cond-true, cond-false, cond_both, both_ways, true≢false, false≢true}
+use Rattle.std.proofs.lemmas.Bool.{and_parts, and_from, or_left, or_right, or_cases, eqb-true, eq-eqb, ne_eqb, ltb-true, lt-ltb, cases_eq, cond-true, cond-false, true≢false, false≢true}
+use Rattle.std.proofs.lemmas.Bool.Decides.{nat_tests}
 use Rattle.descent.specs.declared.line.Line.{Line}
 use Rattle.descent.specs.Lines.{stands, mentioned}
 use Rattle.descent.specs.Proper.{below, distinct, joins, joining}
@@ -105,13 +106,14 @@ joining_kept ks ks' (l ∷ ls) keep h =
     (and_from (stands l.child ks') (stands l.parent ks' && not (eqb l.child l.parent)) c (and_from (stands l.parent ks') (not (eqb l.child l.parent)) u r.1))
     (joining_kept ks ks' ls (λ y s m. keep y s (or_right (eqb l.child y || eqb l.parent y) (mentioned y ls) m)) p.1)
 
+-- of the numbers that stand in a row, those that pass the test are kept
+pub kept_stands : (test : ℕ → Bool) (k : ℕ) (xs : List ℕ) → stands k (filter test xs) ≡ (stands k xs && test k)
+kept_stands test k [] = refl
+kept_stands test k (x ∷ xs) = let later = kept_stands test k xs in grind (arith, nat_tests)
+
 -- what passes a test stays in the row that the test keeps
 pub stands_kept : (test : ℕ → Bool) (xs : List ℕ) (y : ℕ) → test y ≡ true → stands y xs ≡ true → stands y (filter test xs) ≡ true
-stands_kept test [] y t s = s
-stands_kept test (x ∷ xs) y t s =
-    cond_both (test x) (x ∷ filter test xs) (filter test xs) (λ zs. stands y zs ≡ true)
-    (λ _. ⊎_elim (λ e. or_left (eqb x y) (stands y (filter test xs)) e) (λ e. or_right (eqb x y) (stands y (filter test xs)) (stands_kept test xs y t e)) (or_cases (eqb x y) (stands y xs) s))
-    (λ f. ⊎_elim (λ e. absurd (both_ways (test x) f (ap test (eqb-true x y e) ∙ t))) (λ e. stands_kept test xs y t e) (or_cases (eqb x y) (stands y xs) s))
+stands_kept test xs y t s = kept_stands test y xs ∙ and_from (stands y xs) (test y) s t
 
 -- a standing kind has a serial in range
 pub stands-below : (w : ℕ) (ks : List ℕ) (k : ℕ) → below w ks ≡ true → stands k ks ≡ true → k < w

@@ -1,121 +1,130 @@
-// A line of input, read as a call.
+// A line of input, read as a command.
 use super::trouble::Mistake;
+use histories::Call;
 use std::alloc::Global;
-use terminal::{FieldFault, Fields, parse_decimal, parse_words};
+use terminal::{Fields, parse_decimal, parse_words};
 
 // Questions are handed out with a later delivery; until then their calls answer that they are not built.
 const QUESTIONS_BUILT: bool = false;
 
-// A call on a catalogue, with the words that it is handed.
-#[derive(Drop)]
-pub enum Step {
-    Enter(u32),
-    Withdraw(u32),
-    Line { child: u32, parent: u32 },
-    Unline { child: u32, parent: u32 },
-    Close,
-    Read(Vec<u32>),
-    Write,
-    Recall(Vec<u32>),
-    Ask(Vec<u32>),
-    Fit { serial: u32, words: Vec<u32> },
-}
+// Each call is handed the whole of every list.
+const WHOLE: usize = usize::MAX;
 
-#[derive(Drop)]
-pub enum Call<'a> {
-    Step(Step),
+// A call on the catalogue, or what the program does besides.
+#[derive(Clone, Copy)]
+pub enum Command<'a> {
+    Make(Call<'a>),
     Load(&'a str),
     Save(&'a str),
     Kits(&'a str),
     Help,
 }
 
-// None where the line is blank or a remark.
-pub fn parse_call<'a>(heap: Global, line: &'a [u8]) -> Result<Option<Call<'a>>, Mistake> {
+// None where the line is blank or a remark. The words of the line are left in `words`.
+pub fn parse_command<'a>(
+    heap: Global,
+    line: &'a [u8],
+    words: &'a mut Vec<u32>,
+) -> Result<Option<Command<'a>>, Mistake> {
     let mut fields = Fields::new(line);
-    let Some(name) = fields.next_field() else {
+    let Some(name) = fields.next() else {
         return Ok(None);
     };
     if name[0] == b'#' {
         return Ok(None);
     }
-    let call = parse_named(heap, name, &mut fields)?;
-    if fields.next_field().is_some() {
+    let command = parse_named(heap, name, &mut fields, words)?;
+    if fields.next().is_some() {
         return Err(Mistake::FieldCount);
     }
-    Ok(Some(call))
+    Ok(Some(command))
 }
 
-// The call of this name, with the fields that it takes.
+// The command of this name, with the fields that it takes.
 fn parse_named<'a>(
     heap: Global,
     name: &[u8],
     fields: &mut Fields<'a>,
-) -> Result<Call<'a>, Mistake> {
-    match name {
-        b"load" => Ok(Call::Load(take_file(fields)?)),
-        b"save" => Ok(Call::Save(take_file(fields)?)),
-        b"kits" => Ok(Call::Kits(take_file(fields)?)),
-        b"help" => Ok(Call::Help),
-        _ => Ok(Call::Step(parse_step(heap, name, fields)?)),
-    }
+    words: &'a mut Vec<u32>,
+) -> Result<Command<'a>, Mistake> {
+    Ok(match name {
+        b"load" => Command::Load(take_file(fields)?),
+        b"save" => Command::Save(take_file(fields)?),
+        b"kits" => Command::Kits(take_file(fields)?),
+        b"help" => Command::Help,
+        _ => Command::Make(parse_call(heap, name, fields, words)?),
+    })
 }
 
-fn parse_step(heap: Global, name: &[u8], fields: &mut Fields<'_>) -> Result<Step, Mistake> {
-    match name {
-        b"enter" => Ok(Step::Enter(take_serial(fields)?)),
-        b"withdraw" => Ok(Step::Withdraw(take_serial(fields)?)),
-        b"line" => {
-            let child = take_serial(fields)?;
-            let parent = take_serial(fields)?;
-            Ok(Step::Line { child, parent })
-        }
-        b"unline" => {
-            let child = take_serial(fields)?;
-            let parent = take_serial(fields)?;
-            Ok(Step::Unline { child, parent })
-        }
-        b"close" => Ok(Step::Close),
-        b"read" => Ok(Step::Read(take_words(heap, fields)?)),
-        b"write" => Ok(Step::Write),
-        b"recall" => Ok(Step::Recall(take_words(heap, fields)?)),
-        b"ask" | b"fit" if !QUESTIONS_BUILT => Err(Mistake::NotBuilt),
-        b"ask" => Ok(Step::Ask(take_words(heap, fields)?)),
-        b"fit" => {
-            let serial = take_serial(fields)?;
-            let words = take_words(heap, fields)?;
-            Ok(Step::Fit { serial, words })
-        }
-        _ => Err(Mistake::NoSuchCall),
-    }
+fn parse_call<'a>(
+    heap: Global,
+    name: &[u8],
+    fields: &mut Fields<'_>,
+    words: &'a mut Vec<u32>,
+) -> Result<Call<'a>, Mistake> {
+    Ok(match name {
+        b"enter" => Call::Enter {
+            serial: take_serial(fields)?,
+        },
+        b"withdraw" => Call::Withdraw {
+            serial: take_serial(fields)?,
+        },
+        b"line" => Call::EnterLine {
+            child: take_serial(fields)?,
+            parent: take_serial(fields)?,
+        },
+        b"unline" => Call::WithdrawLine {
+            child: take_serial(fields)?,
+            parent: take_serial(fields)?,
+        },
+        b"close" => Call::Close {
+            table: WHOLE,
+            marks: WHOLE,
+            walk: WHOLE,
+            ring: WHOLE,
+        },
+        b"read" => Call::ReadImage {
+            words: take_words(heap, fields, words)?,
+        },
+        b"write" => Call::WriteImage { image: WHOLE },
+        b"recall" => Call::Recall {
+            words: take_words(heap, fields, words)?,
+            answer: WHOLE,
+        },
+        b"ask" | b"fit" if !QUESTIONS_BUILT => return Err(Mistake::NotBuilt),
+        b"ask" => Call::Ask {
+            words: take_words(heap, fields, words)?,
+            table: WHOLE,
+            working: WHOLE,
+            answer: WHOLE,
+        },
+        b"fit" => Call::Fit {
+            serial: take_serial(fields)?,
+            words: take_words(heap, fields, words)?,
+            table: WHOLE,
+            working: WHOLE,
+        },
+        _ => return Err(Mistake::NoSuchCall),
+    })
 }
 
 fn take_serial(fields: &mut Fields<'_>) -> Result<u32, Mistake> {
-    let Some(field) = fields.next_field() else {
-        return Err(Mistake::FieldCount);
-    };
-    match parse_decimal(field) {
-        Some(serial) => Ok(serial),
-        None => Err(Mistake::NotSerial),
-    }
+    let field = fields.next().ok_or(Mistake::FieldCount)?;
+    parse_decimal(field).ok_or(Mistake::NotSerial)
 }
 
 // All the fields that are left.
-fn take_words(heap: Global, fields: &mut Fields<'_>) -> Result<Vec<u32>, Mistake> {
-    match parse_words(heap, fields) {
-        Ok(words) => Ok(words),
-        Err(FieldFault::NotWord) => Err(Mistake::NotWord),
-        Err(FieldFault::Memory) => Err(Mistake::Memory),
-    }
+fn take_words<'a>(
+    heap: Global,
+    fields: &mut Fields<'_>,
+    words: &'a mut Vec<u32>,
+) -> Result<&'a [u32], Mistake> {
+    *words = parse_words(heap, fields)?;
+    Ok(words.as_slice())
 }
 
 // The name of a file is one field, so it has no space in it.
 fn take_file<'a>(fields: &mut Fields<'a>) -> Result<&'a str, Mistake> {
-    let Some(field) = fields.next_field() else {
-        return Err(Mistake::FieldCount);
-    };
-    match std::str::from_utf8(field) {
-        Ok(path) => Ok(path),
-        Err(_) => Err(Mistake::FileName),
-    }
+    let field = fields.next().ok_or(Mistake::FieldCount)?;
+    std::str::from_utf8(field).map_err(|_| Mistake::FileName)
 }

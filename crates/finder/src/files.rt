@@ -3,17 +3,11 @@ use super::trouble::Mistake;
 use std::fs::File;
 use std::io::Write;
 use std::{fs, io};
-use words::{DecodeFault, decode, encode};
+use words::{decode, encode};
 
 pub fn load_words(rt: &HostRuntime, path: &str) -> Result<Vec<u32>, Mistake> {
-    let Ok(bytes) = fs::read(rt, path) else {
-        return Err(Mistake::Unreadable);
-    };
-    match decode(rt.alloc(), bytes.as_slice()) {
-        Ok(words) => Ok(words),
-        Err(DecodeFault::PartialWord) => Err(Mistake::PartialWord),
-        Err(DecodeFault::Memory) => Err(Mistake::Memory),
-    }
+    let bytes = fs::read(rt, path).map_err(|_| Mistake::Unreadable)?;
+    Ok(decode(rt.alloc(), bytes.as_slice())?)
 }
 
 // The words go to a file beside it first, which then takes the name.
@@ -22,9 +16,7 @@ pub fn save_words(rt: &HostRuntime, path: &str, words: &[u32]) -> Result<(), Mis
     let bytes = encode(heap, words)?;
     let mut beside = String::from_str(heap, path)?;
     beside.push_str(".tmp")?;
-    let Ok(file) = File::create(rt, beside.as_str()) else {
-        return Err(Mistake::Unwritable);
-    };
+    let file = File::create(rt, beside.as_str()).map_err(|_| Mistake::Unwritable)?;
     if write_synced(file, bytes.as_slice()).is_err()
         || fs::rename(rt, beside.as_str(), path).is_err()
     {

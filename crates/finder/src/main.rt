@@ -3,26 +3,22 @@
 
 mod calls;
 mod files;
-mod mistakes;
+mod kits;
 mod notes;
 mod options;
 mod session;
 mod trouble;
 
 use bits::Bits;
-use calls::parse_call;
+use calls::parse_command;
 use codes::Code;
-use mistakes::write_trouble;
 use notes::write_greeting;
 use options::{CodeName, Options, read_options};
 use packets::Packets;
 use session::Session;
 use std::io;
 use std::io::{BufRead, BufReader, Write};
-use trouble::{Mistake, Trouble};
-
-// Told where there is no memory even for a line.
-const NO_MEMORY: &[u8] = b"error no memory for this call\n";
+use trouble::{Mistake, Trouble, write_trouble};
 
 // Writes the lines at once, since standard output has no buffer.
 fn tell(rt: &HostRuntime, out: &mut Vec<u8>) -> io::Result<()> {
@@ -31,24 +27,28 @@ fn tell(rt: &HostRuntime, out: &mut Vec<u8>) -> io::Result<()> {
     Ok(())
 }
 
-// The line of a call that came to nothing, in place of what it wrote so far.
+// The line of a call that came to nothing, in place of what it wrote so far. Without memory even for that, it is printed at once.
 fn tell_trouble(rt: &HostRuntime, out: &mut Vec<u8>, trouble: Trouble) -> io::Result<()> {
     out.clear();
-    if write_trouble(out, trouble).is_err() {
-        return rt.stdout().write_all(NO_MEMORY);
+    match write_trouble(out, trouble) {
+        Ok(()) => tell(rt, out),
+        Err(_) => {
+            out.clear();
+            println!(rt; "error {}", Mistake::Memory)
+        }
     }
-    tell(rt, out)
 }
 
-// Carries out the call in a line. A line that is blank or a remark has none.
+// Carries out the command in a line. A line that is blank or a remark has none.
 fn perform_line<C: Code + Drop>(
     rt: &HostRuntime,
     session: &mut Session<C>,
     line: &[u8],
     out: &mut Vec<u8>,
 ) -> Result<(), Trouble> {
-    if let Some(call) = parse_call(rt.alloc(), line)? {
-        session.perform(rt, call, out)?;
+    let mut words = Vec::new(rt.alloc());
+    if let Some(command) = parse_command(rt.alloc(), line, &mut words)? {
+        session.perform(rt, command, out)?;
     }
     Ok(())
 }
@@ -81,6 +81,7 @@ fn serve<C: Code + Drop>(
 ) -> io::Result<()> {
     let mut input = BufReader::new(rt.alloc(), rt.stdin())?;
     let mut line = Vec::new(rt.alloc());
+    // A count, since input may go on for ever and each loop is proved to end.
     for _ in 0..u64::MAX {
         line.clear();
         if input.read_until(b'\n', &mut line)? == 0 {
@@ -98,9 +99,7 @@ fn start<C: Code + Drop>(
     out: &mut Vec<u8>,
 ) -> Result<Session<C>, Trouble> {
     write_greeting(out, options.code)?;
-    let Ok(mut session) = Session::<C>::new(rt.alloc()) else {
-        return Err(Trouble::Mistaken(Mistake::Memory));
-    };
+    let mut session = Session::<C>::new(rt.alloc())?;
     if let Some(path) = &options.image {
         session.load(rt, path.as_str(), out)?;
     }

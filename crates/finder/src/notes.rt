@@ -1,12 +1,12 @@
 // The lines that the program writes for people; each begins with `#`.
 use super::options::CodeName;
 use protocol::write_refusal;
-use std::alloc::AllocError;
-use terminal::write_decimal;
+use std::io::Write;
+use std::{fmt, io};
 use words::{Refusal, low_bits};
 
-const HELP: &[u8] =
-    b"# one call a line; serials are decimal, words eight hexadecimal digits, fields apart by spaces
+const HELP: &str =
+    "# one call a line; serials are decimal, words eight hexadecimal digits, fields apart by spaces
 # enter SERIAL            enter a kind
 # withdraw SERIAL         withdraw a kind that no line has
 # line CHILD PARENT       enter a line: the child is a kind of the parent
@@ -24,69 +24,46 @@ const HELP: &[u8] =
 # answers: ok, ok WORDS, ok KITS CHANGED, refused NUMBER at INDEX by PART (ring WORDS), error and why
 ";
 
-pub fn write_greeting(out: &mut Vec<u8>, code: CodeName) -> Result<(), AllocError> {
-    match code {
-        CodeName::Bits => out.extend_from_slice(b"# finder over bits; help lists the calls\n"),
-        CodeName::Packets => {
-            out.extend_from_slice(b"# finder over packets; help lists the calls\n")
-        }
-    }
+pub fn write_greeting(out: &mut Vec<u8>, code: CodeName) -> io::Result<()> {
+    writeln!(out, "# finder over {code}; help lists the calls")
 }
 
-pub fn write_help(out: &mut Vec<u8>) -> Result<(), AllocError> {
-    out.extend_from_slice(HELP)
+pub fn write_help(out: &mut Vec<u8>) -> io::Result<()> {
+    write!(out, "{HELP}")
 }
 
-pub fn write_standing(out: &mut Vec<u8>, kinds: usize, lines: usize) -> Result<(), AllocError> {
-    out.extend_from_slice(b"# kinds: ")?;
-    write_decimal(out, kinds as u64)?;
-    out.extend_from_slice(b", lines: ")?;
-    write_decimal(out, lines as u64)?;
-    out.extend_from_slice(b"\n")
+pub fn write_standing(out: &mut Vec<u8>, kinds: usize, lines: usize) -> io::Result<()> {
+    writeln!(out, "# kinds: {kinds}, lines: {lines}")
 }
 
-// A kit that lost kinds: those that it named, and those that stand.
-pub fn write_lost(
-    out: &mut Vec<u8>,
-    number: usize,
-    kit: &[u32],
-    left: &[u32],
-) -> Result<(), AllocError> {
-    write_kit(out, number)?;
-    out.extend_from_slice(b"named")?;
-    write_serials(out, kit)?;
-    out.extend_from_slice(b"; standing")?;
-    write_serials(out, left)?;
-    out.extend_from_slice(b"\n")
+// A kit that lost kinds: those that it named, and those that stand. Kits are counted from 1.
+pub fn write_lost(out: &mut Vec<u8>, number: usize, kit: &[u32], left: &[u32]) -> io::Result<()> {
+    let named = Serials(kit);
+    let standing = Serials(left);
+    writeln!(out, "# kit {number}: named{named}; standing{standing}")
 }
 
-pub fn write_refused_kit(
-    out: &mut Vec<u8>,
-    number: usize,
-    told: Refusal,
-) -> Result<(), AllocError> {
-    write_kit(out, number)?;
-    write_refusal(out, told)
-}
-
-// Kits are counted from 1.
-fn write_kit(out: &mut Vec<u8>, number: usize) -> Result<(), AllocError> {
-    out.extend_from_slice(b"# kit ")?;
-    write_decimal(out, number as u64)?;
-    out.extend_from_slice(b": ")
-}
-
-// The serials of the names behind an answer's head.
-fn write_serials(out: &mut Vec<u8>, answer: &[u32]) -> Result<(), AllocError> {
-    let [_, names @ ..] = answer else {
-        return Ok(());
-    };
-    if names.is_empty() {
-        return out.extend_from_slice(b" none");
-    }
-    for name in names {
-        out.extend_from_slice(b" ")?;
-        write_decimal(out, low_bits(*name) as u64)?;
-    }
+pub fn write_refused_kit(out: &mut Vec<u8>, number: usize, told: Refusal) -> io::Result<()> {
+    write!(out, "# kit {number}: ")?;
+    write_refusal(out, told)?;
     Ok(())
+}
+
+// The serials of the names behind an answer's head, each behind a space.
+#[derive(Clone, Copy)]
+struct Serials<'a>(&'a [u32]);
+
+impl fmt::Display for Serials<'_> {
+    fn fmt<W: fmt::Write>(&self, f: &mut fmt::Formatter<W>) -> fmt::Result {
+        let [_, names @ ..] = self.0 else {
+            return Ok(());
+        };
+        if names.is_empty() {
+            return f.write_str(" none");
+        }
+        for name in names {
+            write!(f, " {}", low_bits(*name))?;
+        }
+        Ok(())
+    }
 }

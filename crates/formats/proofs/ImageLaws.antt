@@ -17,7 +17,7 @@ use Rattle.words.specs.Refusals.{refusal, refuse_if, serial_refusal}
 use Rattle.formats.specs.Formats.{not_due, name_refusal, names_refusal, named_refusal, child_refusal, parent_refusal, end_refusal, lines_refusal, serials_in, line_in, line_words, pairs_in, kinds_in, lines_in, image_body}
 use Rattle.formats.specs.Images.{ReadsBack, TellsApart}
 use Rattle.words.proofs.Parts.{kind_of, low_of, kind_passes}
-use Rattle.words.proofs.Chain.{passes, last_check, unrefused, serial_passes}
+use Rattle.words.proofs.Chain.{passes, all_passed, unrefused, serial_passes}
 use Rattle.formats.proofs.ImageWriting.{length-image}
 
 -- a child word is no end
@@ -34,19 +34,15 @@ names_pass due (k ∷ ks) last i rest r b =
     let small = ltb-true k (2 ^ 28) q.0 in
     let w : ℕ = word_of Name k in
     let low : low_bits w ≡ k = low_of Name k small in
-    passes (name_refusal due last i w) _ None
-    (passes (refuse_if (not (is_kind Name w)) (due i)) _ None (kind_passes Name k (due i) small)
-    (passes (serial_refusal (low_bits w) i) _ None (ap (λ (x : ℕ). serial_refusal x i) low ∙ serial_passes k i (omega arith) small)
-    (last_check (refuse_if (leb (low_bits w) last) (due i)) None (unrefused (leb (low_bits w) last) (due i) (lt-leb (low_bits w) last (omega arith))))))
-    (last_check (names_refusal due (length ks) (low_bits w) (i + 1) (map (word_of Name) ks ++ rest)) None
-    (ap (λ (x : ℕ). names_refusal due (length ks) x (i + 1) (map (word_of Name) ks ++ rest)) low ∙ names_pass due ks k (i + 1) rest p.1 q.1))
+    let name = all_passed (refuse_if (not (is_kind Name w)) (due i) ∷ serial_refusal (low_bits w) i ∷ refuse_if (leb (low_bits w) last) (due i) ∷ [])
+    (kind_passes Name k (due i) small, (rw low (serial_passes k i (omega arith) small), (unrefused (leb (low_bits w) last) (due i) (lt-leb (low_bits w) last (omega arith)), tt))) in
+    all_passed (name_refusal due last i w ∷ names_refusal due (length ks) (low_bits w) (i + 1) (map (word_of Name) ks ++ rest) ∷ []) (name, (rw low (names_pass due ks k (i + 1) rest p.1 q.1), tt))
 
 module _ (ks : List ℕ) (rising : rising_from 0 ks ≡ true) (few : below (2 ^ 28) ks ≡ true) where
   named_passes : (i x w : ℕ) → w ≡ x → stands x ks ≡ true → named_refusal ks i w ≡ None
   named_passes i x w e s =
-      ap (named_refusal ks i) e
-      ∙ passes (serial_refusal x i) _ None (serial_passes x i (stands_above 0 ks x rising s) (stands-below (2 ^ 28) ks x few s))
-      (last_check _ None (unrefused (not (stands x ks)) (refusal 5 i part.Kind) (not_from_true (stands x ks) s)))
+      rw e (all_passed (serial_refusal x i ∷ refuse_if (not (stands x ks)) (refusal 5 i part.Kind) ∷ [])
+      (serial_passes x i (stands_above 0 ks x rising s) (stands-below (2 ^ 28) ks x few s), (unrefused (not (stands x ks)) (refusal 5 i part.Kind) (not_from_true (stands x ks) s), tt)))
 
   -- lines in order between these kinds, and the end that counts the words before it
   lines_pass : (ls : List Line) (n last i : ℕ) → rising_from last (map line_key ls) ≡ true → joining ks ls ≡ true → n + length ls ≤ 2048 → i + 2 * length ls < 2 ^ 28
@@ -71,20 +67,27 @@ module _ (ks : List ℕ) (rising : rising_from 0 ks ≡ true) (few : below (2 ^ 
       let key : line_key (line_in c d) ≡ line_key l = ap₂ (λ (x y : ℕ). x * 2 ^ 32 + y) c-low d-low in
       let count : i + 2 * suc (length ls) ≡ i + 2 + 2 * length ls = omega arith in
       let ws : List ℕ = flat_map line_words ls ++ word_of ImageEnd (i + 2 * suc (length ls)) ∷ [] in
+      let first = all_passed (refuse_if (not (is_kind Child c)) (not_due i) ∷ named_refusal ks i (low_bits c) ∷ [])
+      (kind_passes Child l.child (not_due i) c-small, (named_passes i l.child (low_bits c) c-low child.0, tt)) in
+      let second = all_passed (refuse_if (not (is_kind Parent d)) (not_due (i + 1)) ∷ named_refusal ks (i + 1) (low_bits d) ∷ refuse_if (eqb (low_bits c) (low_bits d)) (refusal 7 (i + 1) part.Line)
+      ∷ refuse_if (leb 2048 n) (refusal 9 (i + 1) part.Line) ∷ refuse_if (leb (line_key (line_in c d)) last) (not_due (i + 1)) ∷ []) (
+        kind_passes Parent l.parent (not_due (i + 1)) p-small,
+        (
+          named_passes (i + 1) l.parent (low_bits d) d-low parent.0,
+          (
+            unrefused (eqb (low_bits c) (low_bits d)) (refusal 7 (i + 1) part.Line) (rw (c-low, d-low) (not-true (eqb l.child l.parent) parent.1)),
+            (
+              unrefused (leb 2048 n) (refusal 9 (i + 1) part.Line) (lt-leb 2048 n (omega arith)),
+              (unrefused (leb (line_key (line_in c d)) last) (not_due (i + 1)) (ap (λ (x : ℕ). leb x last) key ∙ lt-leb (line_key l) last up), tt),
+            ),
+          ),
+        ),
+      ) in
+      let later : lines_refusal ks (n + 1) (line_key (line_in c d)) (i + 2) ws ≡ None =
+      ap₂ (λ (x y : ℕ). lines_refusal ks (n + 1) x (i + 2) (flat_map line_words ls ++ word_of ImageEnd y ∷ [])) key count
+      ∙ lines_pass ls (n + 1) (line_key l) (i + 2) p.1 q.1 (omega arith) (omega arith) in
       cond-false (is_kind ImageEnd c) (end_refusal i c (d ∷ ws)) _ (child_goes_on l.child c-small)
-      ∙ passes (child_refusal ks i c) _ None
-      (passes (refuse_if (not (is_kind Child c)) (not_due i)) _ None (kind_passes Child l.child (not_due i) c-small) (last_check (named_refusal ks i (low_bits c)) None (named_passes i l.child (low_bits c) c-low child.0)))
-      (passes (parent_refusal ks n last (i + 1) c d) _ None
-      (passes (refuse_if (not (is_kind Parent d)) (not_due (i + 1))) _ None (kind_passes Parent l.parent (not_due (i + 1)) p-small)
-      (passes (named_refusal ks (i + 1) (low_bits d)) _ None (named_passes (i + 1) l.parent (low_bits d) d-low parent.0)
-      (passes (refuse_if (eqb (low_bits c) (low_bits d)) (refusal 7 (i + 1) part.Line)) _ None
-      (unrefused (eqb (low_bits c) (low_bits d)) (refusal 7 (i + 1) part.Line) (ap₂ eqb c-low d-low ∙ not-true (eqb l.child l.parent) parent.1))
-      (passes (refuse_if (leb 2048 n) (refusal 9 (i + 1) part.Line)) _ None (unrefused (leb 2048 n) (refusal 9 (i + 1) part.Line) (lt-leb 2048 n (omega arith)))
-      (last_check (refuse_if (leb (line_key (line_in c d)) last) (not_due (i + 1))) None
-      (unrefused (leb (line_key (line_in c d)) last) (not_due (i + 1)) (ap (λ (x : ℕ). leb x last) key ∙ lt-leb (line_key l) last up)))))))
-      (last_check (lines_refusal ks (n + 1) (line_key (line_in c d)) (i + 2) ws) None
-      (ap₂ (λ (x y : ℕ). lines_refusal ks (n + 1) x (i + 2) (flat_map line_words ls ++ word_of ImageEnd y ∷ [])) key count
-      ∙ lines_pass ls (n + 1) (line_key l) (i + 2) p.1 q.1 (omega arith) (omega arith))))
+      ∙ all_passed (child_refusal ks i c ∷ parent_refusal ks n last (i + 1) c d ∷ lines_refusal ks (n + 1) (line_key (line_in c d)) (i + 2) ws ∷ []) (first, (second, (later, tt)))
 
   pairs_back : (ls : List Line) (e : ℕ) → joining ks ls ≡ true → pairs_in (flat_map line_words ls ++ e ∷ []) ≡ ls
   pairs_back [] e j = refl
@@ -127,9 +130,11 @@ reads_back w kinds lines h =
     ∙ lines_pass kinds h.rising h.serials lines 0 0 (n + 1) h.ordered h.joins (omega (arith, h.few)) (omega (arith, h.few, h.wide, h.places)) in
     record {
       accepted =
-          passes (refuse_if (not (is_kind ImageHead head)) (not_due 0)) _ None (kind_passes ImageHead n (not_due 0) small)
-          (passes (refuse_if (ltb w (low_bits head)) (refusal 4 0 part.Kind)) _ None (unrefused (ltb w (low_bits head)) (refusal 4 0 part.Kind) (le-ltb w (low_bits head) (omega (arith, h.places))))
-          (passes (names_refusal not_due (low_bits head) 0 1 rest) _ None names-ok (last_check _ None lines_ok)));
+          all_passed (refuse_if (not (is_kind ImageHead head)) (not_due 0) ∷ refuse_if (ltb w (low_bits head)) (refusal 4 0 part.Kind) ∷ names_refusal not_due (low_bits head) 0 1 rest
+          ∷ lines_refusal (serials_in (take (low_bits head) rest)) 0 0 (low_bits head + 1) (drop (low_bits head) rest) ∷ []) (
+            kind_passes ImageHead n (not_due 0) small,
+            (unrefused (ltb w (low_bits head)) (refusal 4 0 part.Kind) (le-ltb w (low_bits head) (omega (arith, h.places))), (names-ok, (lines_ok, tt))),
+          );
       same_kinds = named;
       same_lines = ap pairs_in dropped ∙ pairs_back kinds h.rising h.serials lines e h.joins;
     }

@@ -12,10 +12,10 @@ use Rattle.words.specs.declared.refusal.Part.TheVariants as part
 use Rattle.words.specs.declared.word.WordKind.TheVariants.{Name, ImageHead, Child, Parent, ImageEnd}
 use Rattle.words.specs.Words.{low_bits, is_kind, word_of}
 use Rattle.words.specs.Refusals.{refusal, refuse_if, serial_refusal}
-use Rattle.formats.specs.Formats.{not_due, nothing_due, name_refusal, names_refusal, named_refusal, child_refusal, parent_refusal, end_refusal, lines_refusal, image_refusal, serials_in, line_in, line_words, pairs_in, kinds_in, lines_in, image_body, image_of, count_in}
-use Rattle.formats.proofs.AnswerChecks.{names_passed}
+use Rattle.formats.specs.Formats.{not_due, nothing_due, names_refusal, named_refusal, child_refusal, parent_refusal, end_refusal, lines_refusal, image_refusal, serials_in, line_in, line_words, pairs_in, kinds_in, lines_in, image_body, image_of, count_in}
+use Rattle.formats.proofs.NameRuns.{name_passed, names_passed}
 use Rattle.words.proofs.Parts.{word_back, was_kind}
-use Rattle.words.proofs.Chain.{all_pass, not-refused, good_serial}
+use Rattle.words.proofs.Chain.{all_pass, each_passes, not-refused, good_serial}
 use Rattle.formats.proofs.ImageWriting.{length-image}
 
 -- a refusal is never nothing
@@ -29,15 +29,13 @@ low_below (w ∷ ws) = and_from (ltb (low_bits w) (2 ^ 28)) (below (2 ^ 28) (ser
 named_passed : (ks : List ℕ) (i x : ℕ) → named_refusal ks i x ≡ None → (0 < x) × (stands x ks ≡ true)
 named_passed ks i x e =
     let missing : Refusal = refusal 5 i part.Kind in
-    let a = all_pass (serial_refusal x i) (refuse_if (not (stands x ks)) missing ∷ []) e in
-    let b = all_pass (refuse_if (not (stands x ks)) missing) [] a.1 in
-    ((good_serial x i a.0).0, not-false (stands x ks) (not-refused (not (stands x ks)) missing b.0))
+    let p = each_passes (serial_refusal x i ∷ refuse_if (not (stands x ks)) missing ∷ []) e in
+    ((good_serial x i p.0).0, not-false (stands x ks) (not-refused (not (stands x ks)) missing p.1.0))
 
 child_passed : (ks : List ℕ) (i c : ℕ) → child_refusal ks i c ≡ None → (is_kind Child c ≡ true) × (stands (low_bits c) ks ≡ true)
 child_passed ks i c e =
-    let a = all_pass (refuse_if (not (is_kind Child c)) (not_due i)) (named_refusal ks i (low_bits c) ∷ []) e in
-    let b = all_pass (named_refusal ks i (low_bits c)) [] a.1 in
-    (was_kind Child c (not_due i) a.0, (named_passed ks i (low_bits c) b.0).1)
+    let p = each_passes (refuse_if (not (is_kind Child c)) (not_due i) ∷ named_refusal ks i (low_bits c) ∷ []) e in
+    (was_kind Child c (not_due i) p.0, (named_passed ks i (low_bits c) p.1.0).1)
 
 parent_passed : (ks : List ℕ) (n last i c p : ℕ) → parent_refusal ks n last i c p ≡ None
     → (is_kind Parent p ≡ true) × (stands (low_bits p) ks ≡ true) × (eqb (low_bits c) (low_bits p) ≡ false) × (n < 2048) × (last < line_key (line_in c p))
@@ -45,32 +43,19 @@ parent_passed ks n last i c p e =
     let own : Refusal = refusal 7 i part.Line in
     let many : Refusal = refusal 9 i part.Line in
     let key : ℕ = line_key (line_in c p) in
-    let order : Option Refusal = refuse_if (leb key last) (not_due i) in
-    let full : Option Refusal = refuse_if (leb 2048 n) many in
-    let same : Option Refusal = refuse_if (eqb (low_bits c) (low_bits p)) own in
-    let k = all_pass (refuse_if (not (is_kind Parent p)) (not_due i)) (named_refusal ks i (low_bits p) ∷ same ∷ full ∷ order ∷ []) e in
-    let s = all_pass (named_refusal ks i (low_bits p)) (same ∷ full ∷ order ∷ []) k.1 in
-    let o = all_pass same (full ∷ order ∷ []) s.1 in
-    let m = all_pass full (order ∷ []) o.1 in
-    let u = all_pass order [] m.1 in (
-      was_kind Parent p (not_due i) k.0,
-      (named_passed ks i (low_bits p) s.0).1,
-      not-refused (eqb (low_bits c) (low_bits p)) own o.0,
-      leb-false 2048 n (not-refused (leb 2048 n) many m.0),
-      leb-false key last (not-refused (leb key last) (not_due i) u.0),
+    let q = each_passes (refuse_if (not (is_kind Parent p)) (not_due i) ∷ named_refusal ks i (low_bits p) ∷ refuse_if (eqb (low_bits c) (low_bits p)) own ∷ refuse_if (leb 2048 n) many ∷ refuse_if (leb key last) (not_due i) ∷ []) e in (
+      was_kind Parent p (not_due i) q.0,
+      (named_passed ks i (low_bits p) q.1.0).1,
+      not-refused (eqb (low_bits c) (low_bits p)) own q.1.1.0,
+      leb-false 2048 n (not-refused (leb 2048 n) many q.1.1.1.0),
+      leb-false key last (not-refused (leb key last) (not_due i) q.1.1.1.1.0),
     )
 
--- the end that passed counts the words before it
-end_passed : (i e : ℕ) (ws : List ℕ) → end_refusal i e ws ≡ None → low_bits e ≡ i
+-- the end that passed counts the words before it, and nothing follows it
+end_passed : (i e : ℕ) (ws : List ℕ) → end_refusal i e ws ≡ None → (low_bits e ≡ i) × (nothing_due not_due (i + 1) ws ≡ None)
 end_passed i e ws h =
-    let a = all_pass (refuse_if (not (eqb (low_bits e) i)) (not_due i)) (nothing_due not_due (i + 1) ws ∷ []) h in
-    eqb-true (low_bits e) i (not-false (eqb (low_bits e) i) (not-refused (not (eqb (low_bits e) i)) (not_due i) a.0))
-
--- nothing follows the end
-end_last : {X : Type 0} (i e p : ℕ) (ws : List ℕ) → end_refusal i e (p ∷ ws) ≡ None → X
-end_last i e p ws h =
-    let a = all_pass (refuse_if (not (eqb (low_bits e) i)) (not_due i)) (Some (not_due (i + 1)) ∷ []) h in
-    none_refused (not_due (i + 1)) a.1
+    let p = each_passes (refuse_if (not (eqb (low_bits e) i)) (not_due i) ∷ nothing_due not_due (i + 1) ws ∷ []) h in
+    (eqb-true (low_bits e) i (not-false (eqb (low_bits e) i) (not-refused (not (eqb (low_bits e) i)) (not_due i) p.0)), p.1.0)
 
 -- what a line and all that follows it show where they pass
 abbrev Lined : List ℕ → ℕ → ℕ → ℕ → List ℕ → Type 0
@@ -83,7 +68,7 @@ lines_passed ks n last i [] l e = none_refused (not_due i) e
 lines_passed ks n last i (c ∷ []) l e =
     ⊎_elim
     (λ (h : is_kind ImageEnd c ≡ true).
-    let count : i + 2 * 0 ≡ low_bits c = omega (arith, end_passed i c [] (sym (cond-true (is_kind ImageEnd c) (end_refusal i c []) _ h) ∙ e)) in
+    let count : i + 2 * 0 ≡ low_bits c = omega (arith, (end_passed i c [] (sym (cond-true (is_kind ImageEnd c) (end_refusal i c []) _ h) ∙ e)).0) in
     (refl, refl, omega arith, ap (λ (x : ℕ). x ∷ []) (ap (word_of ImageEnd) count ∙ word_back ImageEnd c h)))
     (λ (h : is_kind ImageEnd c ≡ false).
     let a = all_pass (child_refusal ks i c) (Some (not_due (i + 1)) ∷ []) (sym (cond-false (is_kind ImageEnd c) (end_refusal i c []) _ h) ∙ e) in
@@ -91,15 +76,13 @@ lines_passed ks n last i (c ∷ []) l e =
     (cases_Bool (is_kind ImageEnd c))
 lines_passed ks n last i (c ∷ p ∷ ws) l e =
     ⊎_elim
-    (λ (h : is_kind ImageEnd c ≡ true). end_last i c p ws (sym (cond-true (is_kind ImageEnd c) (end_refusal i c (p ∷ ws)) _ h) ∙ e))
+    (λ (h : is_kind ImageEnd c ≡ true). none_refused (not_due (i + 1)) (end_passed i c (p ∷ ws) (sym (cond-true (is_kind ImageEnd c) (end_refusal i c (p ∷ ws)) _ h) ∙ e)).1)
     (λ (h : is_kind ImageEnd c ≡ false).
     let later : Option Refusal = lines_refusal ks (n + 1) (line_key (line_in c p)) (i + 2) ws in
-    let a = all_pass (child_refusal ks i c) (parent_refusal ks n last (i + 1) c p ∷ later ∷ []) (sym (cond-false (is_kind ImageEnd c) (end_refusal i c (p ∷ ws)) _ h) ∙ e) in
-    let b = all_pass (parent_refusal ks n last (i + 1) c p) (later ∷ []) a.1 in
-    let d = all_pass later [] b.1 in
-    let child = child_passed ks i c a.0 in
-    let parent = parent_passed ks n last (i + 1) c p b.0 in
-    let rest = lines_passed ks (n + 1) (line_key (line_in c p)) (i + 2) ws (omega (arith, parent.3)) d.0 in
+    let q = each_passes (child_refusal ks i c ∷ parent_refusal ks n last (i + 1) c p ∷ later ∷ []) (sym (cond-false (is_kind ImageEnd c) (end_refusal i c (p ∷ ws)) _ h) ∙ e) in
+    let child = child_passed ks i c q.0 in
+    let parent = parent_passed ks n last (i + 1) c p q.1.0 in
+    let rest = lines_passed ks (n + 1) (line_key (line_in c p)) (i + 2) ws (omega (arith, parent.3)) q.1.1.0 in
     let count : i + 2 * suc (length (pairs_in ws)) ≡ i + 2 + 2 * length (pairs_in ws) = omega arith in (
       and_from (ltb last (line_key (line_in c p))) (rising_from (line_key (line_in c p)) (map line_key (pairs_in ws))) (lt-ltb last (line_key (line_in c p)) parent.4) rest.0,
       and_from (joins ks (line_in c p)) (joining ks (pairs_in ws))
@@ -117,10 +100,8 @@ pub names_back : (due : ℕ → Refusal) (n last i : ℕ) (ws : List ℕ) → na
 names_back due zero last i ws e = refl
 names_back due (suc n) last i [] e = none_refused (due i) e
 names_back due (suc n) last i (w ∷ ws) e =
-    let p = all_pass (name_refusal due last i w) (names_refusal due n (low_bits w) (i + 1) ws ∷ []) e in
-    let q = all_pass (names_refusal due n (low_bits w) (i + 1) ws) [] p.1 in
-    let a = all_pass (refuse_if (not (is_kind Name w)) (due i)) (serial_refusal (low_bits w) i ∷ refuse_if (leb (low_bits w) last) (due i) ∷ []) p.0 in
-    ap₂ (λ (x : ℕ) (us : List ℕ). x ∷ us) (word_back Name w (was_kind Name w (due i) a.0)) (names_back due n (low_bits w) (i + 1) ws q.0)
+    let p = name_passed due n last i w ws e in
+    ap₂ (λ (x : ℕ) (us : List ℕ). x ∷ us) (word_back Name w p.0) (names_back due n (low_bits w) (i + 1) ws p.2)
 
 -- the checks of an image, each passed
 pub record Passed (w : ℕ) (ws : List ℕ) : Type 0 where
@@ -136,16 +117,13 @@ image_passed w (h ∷ ws) e =
     let full : Refusal = refusal 4 0 part.Kind in
     let names : Option Refusal = names_refusal not_due (low_bits h) 0 1 ws in
     let lines : Option Refusal = lines_refusal (kinds_in (h ∷ ws)) 0 0 (low_bits h + 1) (drop (low_bits h) ws) in
-    let a = all_pass (refuse_if (not (is_kind ImageHead h)) (not_due 0)) (refuse_if (ltb w (low_bits h)) full ∷ names ∷ lines ∷ []) e in
-    let b = all_pass (refuse_if (ltb w (low_bits h)) full) (names ∷ lines ∷ []) a.1 in
-    let c = all_pass names (lines ∷ []) b.1 in
-    let d = all_pass lines [] c.1 in
+    let p = each_passes (refuse_if (not (is_kind ImageHead h)) (not_due 0) ∷ refuse_if (ltb w (low_bits h)) full ∷ names ∷ lines ∷ []) e in
     record {
       some = omega arith;
-      head = was_kind ImageHead h (not_due 0) a.0;
-      fits = ltb-false w (low_bits h) (not-refused (ltb w (low_bits h)) full b.0);
-      names = c.0;
-      lines = lines_passed (kinds_in (h ∷ ws)) 0 0 (low_bits h + 1) (drop (low_bits h) ws) (omega arith) d.0;
+      head = was_kind ImageHead h (not_due 0) p.0;
+      fits = ltb-false w (low_bits h) (not-refused (ltb w (low_bits h)) full p.1.0);
+      names = p.1.1.0;
+      lines = lines_passed (kinds_in (h ∷ ws)) 0 0 (low_bits h + 1) (drop (low_bits h) ws) (omega arith) p.1.1.1.0;
     }
 
 -- what an image names and joins, a catalogue can hold

@@ -1,6 +1,7 @@
+pub mod Telling
 pub mod NameRuns
-pub mod AnswerChecks
 pub mod Keeping
+pub mod WriterLaws
 pub mod ImageWriting
 pub mod ImageChecks
 pub mod ImagePassed

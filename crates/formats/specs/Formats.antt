@@ -107,6 +107,10 @@ parent_refusal kinds n last i c p =
     ∷ refuse_if (nat_le (line_key (line_in c p)) last) (not_due i)
     ∷ [])
 
+-- two words from index i on as a line
+abbrev pub line_refusal : List ℕ → ℕ → ℕ → ℕ → ℕ → ℕ → Option Refusal
+line_refusal kinds n last i c p = first_of (child_refusal kinds i c ∷ parent_refusal kinds n last (i + 1) c p ∷ [])
+
 -- the end counts the words before it, and is the last word
 abbrev pub end_refusal : ℕ → ℕ → List ℕ → Option Refusal
 end_refusal i e ws = first_of (refuse_if (not (low_bits e == i)) (not_due i) ∷ nothing_due not_due (i + 1) ws ∷ [])

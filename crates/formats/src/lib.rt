@@ -5,6 +5,7 @@ mod answers;
 mod checking;
 mod names;
 mod source;
+mod writer;
 mod writing;
 
 pub use answers::recall;

@@ -1,42 +1,40 @@
 // Writing the image of what stands: a head, a name for each kind, two words for each line, and an end.
-ghost use Rattle.std.specs.Prelude.{◌≡◌, ◌+◌, ◌*◌, ◌^◌, ◌≤◌, true, map, length};
+ghost use Rattle.std.specs.Prelude.{◌≡◌, ◌+◌, ◌*◌, ◌≤◌, map, length};
 ghost use Rattle.std.specs.List.{flat_map};
-ghost use Rattle.std.proofs.Math.Seq.{paste};
 ghost use Rattle.descent.specs.Lines.{serials_of};
-ghost use Rattle.descent.specs.Proper.{below};
 ghost use Rattle.words.specs.declared.word.WordKind.TheVariants.{Name};
 ghost use Rattle.words.specs.Words.{word_of};
 ghost use Rattle.words.specs.Refusals.{Says, image_told, list_refusal};
 ghost use Rattle.formats.specs.Formats.{Listed, image_of, image_length, line_words};
 ghost use Rattle.formats.specs.Images.{ReadsBack, TellsApart};
+ghost use Rattle.formats.specs.Writing.{Writes};
 
 use super::source::ImageSource;
-use descent::{Kind, Line};
-use words::{ImageFault, WordKind, make_word, need};
+use super::writer::put;
+use descent::Standing;
+use stack::Stack;
+use words::{ImageFault, WordKind, need};
 
-// Writes a name for each kind behind the place of a head.
-fn write_names(kinds: &[Kind], image: &mut [u32])
-    requires serials { below (2 ^ 28) (serials_of kinds.now) ≡ true }
-    requires room { 1 + length kinds.now ≤ length image.old }
-    ensures { image.new ≡ paste image.old 1 (map (word_of Name) (serials_of kinds.now)) (length kinds.now) }
+// Writes a name for each kind.
+fn write_names(standing: &Standing<'_>, image: &mut Stack<'_, u32>)
+    requires { image.old.depth + length standing.now.kinds.now ≤ length image.old.slots.now }
+    ensures writes { Writes image.old image.new (map (word_of Name) (serials_of standing.now.kinds.now)) }
+    ensures lender { image.new.slots.ghost_name ≡ image.old.slots.ghost_name }
 {
-    for (i, kind) in kinds.iter().enumerate() {
-        image[1 + i] = make_word(WordKind::Name, kind.serial);
+    for kind in standing.kinds {
+        put(image, WordKind::Name, kind.serial);
     }
 }
 
-// Writes a child word and a parent word for each line, from an index on.
-fn write_lines(lines: &[Line], at: usize, image: &mut [u32])
-    requires children { below (2 ^ 28) (map (λ l. l.child) lines.now) ≡ true }
-    requires parents { below (2 ^ 28) (map (λ l. l.parent) lines.now) ≡ true }
-    requires room { at + 2 * length lines.now ≤ length image.old }
-    ensures { image.new ≡ paste image.old at (flat_map line_words lines.now) (2 * length lines.now) }
+// Writes a child word and a parent word for each line.
+fn write_lines(standing: &Standing<'_>, image: &mut Stack<'_, u32>)
+    requires { image.old.depth + 2 * length standing.now.lines.now ≤ length image.old.slots.now }
+    ensures writes { Writes image.old image.new (flat_map line_words standing.now.lines.now) }
+    ensures lender { image.new.slots.ghost_name ≡ image.old.slots.ghost_name }
 {
-    let mut next = at;
-    for line in lines {
-        image[next] = make_word(WordKind::Child, line.child);
-        image[next + 1] = make_word(WordKind::Parent, line.parent);
-        next += 2;
+    for line in standing.lines {
+        put(image, WordKind::Child, line.child);
+        put(image, WordKind::Parent, line.parent);
     }
 }
 
@@ -50,11 +48,12 @@ pub fn write_image(source: &ImageSource<'_>, image: &mut [u32]) -> Result<usize,
 {
     let standing = &source.standing;
     let names = standing.kinds.len();
-    let end = 1 + names + 2 * standing.lines.len();
-    need(image.len(), end + 1)?;
-    image[0] = make_word(WordKind::ImageHead, names as u32);
-    write_names(standing.kinds, image);
-    write_lines(standing.lines, 1 + names, image);
-    image[end] = make_word(WordKind::ImageEnd, end as u32);
+    need(image.len(), 2 + names + 2 * standing.lines.len())?;
+    let mut image = Stack::new(image);
+    put(&mut image, WordKind::ImageHead, names as u32);
+    write_names(standing, &mut image);
+    write_lines(standing, &mut image);
+    let end = image.depth();
+    put(&mut image, WordKind::ImageEnd, end as u32);
     Ok(end + 1)
 }

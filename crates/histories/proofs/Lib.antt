@@ -1,1 +1,5 @@
+pub mod Prefixes
+pub mod Sayings
+pub mod Closings
 pub mod Holding
+pub mod Following

@@ -1,6 +1,6 @@
-// The calls that a terminal can make, with all that they are handed.
+// The calls that a terminal can make on a catalogue, with all that they are handed.
 
-// Of a list that is written to, a call has how much of it is handed in.
+// Of a list that a finder owns, a call has how much of it is handed in: that much from its start, or all of it where it is shorter.
 #[derive(Clone, Copy)]
 pub enum Call<'a> {
     Enter {
@@ -24,9 +24,22 @@ pub enum Call<'a> {
         image: usize,
     },
     Close {
+        table: usize,
         marks: usize,
         walk: usize,
         ring: usize,
+    },
+    Ask {
+        words: &'a [u32],
+        table: usize,
+        working: usize,
+        answer: usize,
+    },
+    Fit {
+        serial: u32,
+        words: &'a [u32],
+        table: usize,
+        working: usize,
     },
     Recall {
         words: &'a [u32],

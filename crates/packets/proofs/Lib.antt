@@ -3,3 +3,5 @@ pub mod RunLaws
 pub mod Turn
 pub mod Walk
 pub mod Pairs
+pub mod Halving
+pub mod Filled

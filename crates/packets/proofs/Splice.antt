@@ -80,11 +80,9 @@ module _ (w : ℕ) (xs : List ℕ) (start stop i j : ℕ) (v a b : Bool) (some :
   splice_room e = rw (← splice_length) (even_fits w splice e splice_even splice_rises)
 
   -- the row as the code fills it
-  module _ (row : List ℕ) (filled : row ≡ ((([] ++ take (i - 0) (drop 0 xs)) ++ only a start) ++ only b stop) ++ take (length xs - j) (drop j xs)) where
+  module _ (row : List ℕ) (filled : row ≡ ((([] ++ take i xs) ++ only a start) ++ only b stop) ++ take (length xs - j) (drop j xs)) where
     is-splice : row ≡ splice
-    is-splice =
-        let all : i - 0 ≡ i = omega arith in
-        filled ∙ rw (all, take_rest xs j) (simp append_assoc)
+    is-splice = filled ∙ rw (take_rest xs j) (simp append_assoc)
 
     pub splice-rule : keeps_rule w row ≡ true
     splice-rule = ap (keeps_rule w) is-splice ∙ rule_from w splice splice_even splice_rises

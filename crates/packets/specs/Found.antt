@@ -1,32 +1,19 @@
 -- The bounds of packets, index by index, and where a number cuts them.
-use Rattle.std.specs.Prelude.{◌≡◌, ℕ, suc, ◌+◌, ◌%◌, ◌<◌, ◌≤◌, Some, None, ◌≢◌, slice_index, slice_index_or}
+use Rattle.std.specs.Prelude.{◌≡◌, ℕ, suc, ◌+◌, ◌%◌, ◌<◌, ◌≤◌, Some, None, length, ◌≢◌, slice_index, slice_index_or}
 use Rattle.std.proofs.Common.{sym, ap, ◌∙◌, subst, add-one, arith}
-use Rattle.std.proofs.lemmas.List.{get_or-take}
 use Rattle.std.proofs.lemmas.Bool.{eq-eqb, ne_eqb}
 use Rattle.packets.specs.declared.value.Packets.{Packets}
 use Rattle.packets.specs.Bounds.{count_below}
 use Rattle.packets.specs.Packets.{bounds_of, packets_have}
 use Rattle.codes.specs.Sorts.{Next}
-use Rattle.packets.specs.Filling.{held-length}
 use Rattle.packets.specs.Parity.{odd, parity_count, inside-odd}
 use Rattle.packets.specs.Rising.{Rises, Cut, cut, cut_here, cut-before, cut-after, rises_next, rises_top, rule_rises, rule_even}
 
 pub rising : (v : Packets) → Rises 512 0 (bounds_of v)
 rising v = rule_rises 512 (bounds_of v) v.rule
 
-pub even_count : (v : Packets) → v.row.len % 2 ≡ 0
-even_count v = omega (arith, held-length v.row, rule_even 512 (bounds_of v) v.rule)
-
-pub bound_at : (v : Packets) (k : ℕ) → k < v.row.len → slice_index (bounds_of v) k ≡ slice_index v.row.at k
-bound_at v k h = get_or-take v.row.len v.row.at k 0 h
-
-pub found : (v : Packets) (n i : ℕ) → i ≤ v.row.len → ((k : ℕ) → suc k ≡ i → slice_index v.row.at k < n)
-    → (i < v.row.len → n ≤ slice_index v.row.at i) → i ≡ count_below n (bounds_of v)
-found v n i h f g =
-    let same = held-length v.row in
-    sym (cut_here 512 0 n (bounds_of v) i (rising v) (omega arith)
-    (λ k e. let at-k = bound_at v k (omega arith) in let low = f k e in omega arith)
-    (λ l. let at_i = bound_at v i (omega arith) in let high = g (omega arith) in omega arith))
+pub even_count : (v : Packets) → length (bounds_of v) % 2 ≡ 0
+even_count v = rule_even 512 (bounds_of v) v.rule
 
 -- the number of bounds that are not above a place decides
 pub has_count : (v : Packets) (p k : ℕ) → k ≡ count_below (p + 1) (bounds_of v) → packets_have v p ≡ odd k
@@ -35,43 +22,41 @@ has_count v p k e =
     ∙ ap (λ (n : ℕ). odd (count_below n (bounds_of v))) (sym (add-one p)) ∙ ap odd (sym e)
 
 -- the same from the two bounds beside the place
-has_between : (v : Packets) (p k : ℕ) → k ≤ v.row.len → ((j : ℕ) → suc j ≡ k → slice_index v.row.at j ≤ p) → (k < v.row.len → p < slice_index v.row.at k) → packets_have v p ≡ odd k
-has_between v p k h f g = has_count v p k (found v (p + 1) k h (λ j e. omega (arith, f j e)) (λ l. omega (arith, g l)))
+has_between : (v : Packets) (p k : ℕ) → k ≤ length v.row → ((j : ℕ) → suc j ≡ k → slice_index v.row j ≤ p) → (k < length v.row → p < slice_index v.row k) → packets_have v p ≡ odd k
+has_between v p k h f g = has_count v p k (sym (cut_here 512 0 (p + 1) (bounds_of v) k (rising v) h (λ j e. omega (arith, f j e)) (λ l. omega (arith, g l))))
 
 -- what a search for the place `from` tells of the places from there on
 module _ (v : Packets) (from k : ℕ) (found_at : k ≡ count_below (from + 1) (bounds_of v)) where
   cut_at : Cut 512 (bounds_of v) k (from + 1)
   cut_at = subst (λ (i : ℕ). Cut 512 (bounds_of v) i (from + 1)) (sym found_at) (cut 512 0 (from + 1) (bounds_of v) (rising v))
 
-  few : k ≤ v.row.len
-  few = omega (arith, cut_at.short, held-length v.row)
+  few : k ≤ length v.row
+  few = cut_at.short
 
-  passed : (j : ℕ) → suc j ≡ k → slice_index v.row.at j ≤ from
-  passed j e = let low = cut-before 512 (from + 1) k j (bounds_of v) cut_at (omega arith) in omega (arith, few, bound_at v j (omega (arith, few)))
+  passed : (j : ℕ) → suc j ≡ k → slice_index v.row j ≤ from
+  passed j e = let low = cut-before 512 (from + 1) k j (bounds_of v) cut_at (omega arith) in omega arith
 
   -- up to the next bound all places are as this one
-  alike : (p : ℕ) → from ≤ p → (k < v.row.len → p < slice_index v.row.at k) → packets_have v p ≡ odd k
+  alike : (p : ℕ) → from ≤ p → (k < length v.row → p < slice_index v.row k) → packets_have v p ≡ odd k
   alike p h g = has_between v p k few (λ j e. omega (arith, passed j e)) g
 
   pub next_here : from < 512 → k % 2 ≡ 1 → Next 512 (packets_have v) from (Some from)
   next_here h e = (omega arith, h, has_count v from k found_at ∙ eq-eqb (k % 2) 1 e, λ p a b. absurd (omega arith))
 
-  pub next_packet : (k % 2 ≢ 1) → k < v.row.len → Next 512 (packets_have v) from (Some (slice_index v.row.at k))
+  pub next_packet : (k % 2 ≢ 1) → k < length v.row → Next 512 (packets_have v) from (Some (slice_index v.row k))
   next_packet e h =
-      let q = slice_index_or v.row.at k 0 in
-      let more : suc k < v.row.len = omega (arith, even_count v) in
-      let at-k = bound_at v k h in
-      let at_next = bound_at v (suc k) more in
-      let up = rises_next 512 0 (bounds_of v) k (rising v) (omega (arith, held-length v.row)) in
-      let top = rises_top 512 0 (bounds_of v) (suc k) (rising v) (omega (arith, held-length v.row)) in
-      let after = cut-after 512 (from + 1) k (bounds_of v) cut_at (omega (arith, held-length v.row)) in
-      let same : (j : ℕ) → suc j ≡ suc k → slice_index v.row.at j ≤ q =
-      λ j s. let is : k ≡ j = omega arith in subst (λ (i : ℕ). slice_index v.row.at i ≤ q) is (omega arith) in (
+      let q = slice_index_or v.row k 0 in
+      let more : suc k < length v.row = omega (arith, even_count v) in
+      let up = rises_next 512 0 (bounds_of v) k (rising v) (omega arith) in
+      let top = rises_top 512 0 (bounds_of v) (suc k) (rising v) (omega arith) in
+      let after = cut-after 512 (from + 1) k (bounds_of v) cut_at (omega arith) in
+      let same : (j : ℕ) → suc j ≡ suc k → slice_index v.row j ≤ q =
+      λ j s. let is : k ≡ j = omega arith in subst (λ (i : ℕ). slice_index v.row i ≤ q) is (omega arith) in (
         omega arith,
         omega arith,
         has_between v q (suc k) (omega arith) same (λ _. omega arith) ∙ eq-eqb (suc k % 2) 1 (omega arith),
         λ p a b. alike p a (λ _. b) ∙ ne_eqb (k % 2) 1 e,
       )
 
-  pub next_none : v.row.len ≤ k → Next 512 (packets_have v) from None
+  pub next_none : length v.row ≤ k → Next 512 (packets_have v) from None
   next_none h p a b = alike p a (λ l. absurd (omega arith)) ∙ ne_eqb (k % 2) 1 (λ e. omega (arith, even_count v, few))

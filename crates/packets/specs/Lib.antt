@@ -5,4 +5,4 @@ pub mod Filling
 pub mod Found
 pub mod Parity
 pub mod Rising
-pub mod RowRule
+pub mod Zeros

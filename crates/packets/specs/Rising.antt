@@ -1,5 +1,5 @@
 -- Rising rows of bounds, below any width.
-use Rattle.std.specs.Prelude.{◌≡◌, ℕ, zero, suc, ◌+◌, ◌%◌, ◌<◌, ◌≤◌, Bool, true, cond, ◌&&◌, List, [], ◌∷◌, ◌++◌, length, take, drop, ◌==◌, nat_le, slice_index, refl}
+use Rattle.std.specs.Prelude.{◌≡◌, ℕ, zero, suc, ◌+◌, ◌%◌, ◌<◌, ◌≤◌, Bool, true, cond, ◌&&◌, List, [], ◌∷◌, ◌++◌, length, take, drop, ◌==◌, nat_le, slice_index, slice_index_or, refl}
 use Rattle.std.proofs.Common.{sym, ap, ◌∙◌, subst, ⊎_elim, arith}
 use Rattle.std.proofs.lemmas.Bool.{leb-true, le-leb, lt-ltb, le-ltb, eqb-true, eq-eqb, and_parts, and_from, cases_lt}
 use Rattle.packets.specs.Bounds.{rises, keeps_rule, count_below}
@@ -50,10 +50,10 @@ rises_append w low n [] ys h r u s = rises_lower w low n ys h s
 rises_append w low n (b ∷ bs) ys h r u s = (r.0, r.1, rises_append w (suc b) n bs ys u.0 r.2 u.1 s)
 
 -- place by place
-pub rises_low : (w low : ℕ) (xs : List ℕ) (k : ℕ) → Rises w low xs → k < length xs → low ≤ slice_index xs k
-rises_low w low [] k r h = absurd (omega arith)
-rises_low w low (b ∷ bs) zero r h = r.0
-rises_low w low (b ∷ bs) (suc k) r h = omega (arith, r.0, rises_low w (suc b) bs k r.2 (omega arith))
+pub rises_low : (w low : ℕ) (xs : List ℕ) (k d : ℕ) → Rises w low xs → k < length xs → low ≤ slice_index_or xs k d
+rises_low w low [] k d r h = absurd (omega arith)
+rises_low w low (b ∷ bs) zero d r h = r.0
+rises_low w low (b ∷ bs) (suc k) d r h = omega (arith, r.0, rises_low w (suc b) bs k d r.2 (omega arith))
 
 pub rises_top : (w low : ℕ) (xs : List ℕ) (k : ℕ) → Rises w low xs → k < length xs → slice_index xs k ≤ w
 rises_top w low [] k r h = absurd (omega arith)
@@ -62,7 +62,7 @@ rises_top w low (b ∷ bs) (suc k) r h = rises_top w (suc b) bs k r.2 (omega ari
 
 pub rises_next : (w low : ℕ) (xs : List ℕ) (k : ℕ) → Rises w low xs → suc k < length xs → slice_index xs k < slice_index xs (suc k)
 rises_next w low [] k r h = absurd (omega arith)
-rises_next w low (b ∷ bs) zero r h = rises_low w (suc b) bs 0 r.2 (omega arith)
+rises_next w low (b ∷ bs) zero r h = rises_low w (suc b) bs 0 0 r.2 (omega arith)
 rises_next w low (b ∷ bs) (suc k) r h = rises_next w (suc b) bs k r.2 (omega arith)
 
 -- each number from low to w is one bound at most
@@ -103,7 +103,7 @@ cut_here w low n (b ∷ bs) (suc i) r h f g =
   where
     first : (k : ℕ) → k ≤ length bs → slice_index (b ∷ bs) k < n → b < n
     first zero l h = h
-    first (suc k) l h = omega (arith, rises_low w (suc b) bs k r.2 (omega arith))
+    first (suc k) l h = omega (arith, rises_low w (suc b) bs k 0 r.2 (omega arith))
 
 -- and the cut tells of the bounds beside it
 pub cut-before : (w n i k : ℕ) (xs : List ℕ) → Cut w xs i n → k < i → slice_index xs k < n

@@ -5,7 +5,7 @@ ghost use Rattle.packets.specs.OnePackets.{packets_lawful};
 use super::bounds::Bounds;
 use super::row::PacketRow;
 use super::value::Packets;
-use codes::{Code, PLACES, Truth};
+use codes::{Code, PLACES, Truth, within_width};
 use words::CodeFault;
 
 impl Truth for Packets {
@@ -28,20 +28,19 @@ impl Truth for Packets {
     // What lies before the first packet of the other, between its packets and after its last is unset.
     fn meet(&mut self, other: &Packets) {
         let mut edge = 0;
-        for i in 0..other.row.len / 2 {
-            self.unset_run(edge, other.row.at[2 * i] as usize);
-            edge = other.row.at[2 * i + 1] as usize;
+        let (pairs, _) = other.row.as_slice().as_chunks::<2>();
+        for [first, after] in pairs {
+            self.unset_run(edge, usize::from(*first));
+            edge = usize::from(*after);
         }
         self.unset_run(edge, PLACES);
     }
 
     // Each packet of the other is set.
     fn join(&mut self, other: &Packets) {
-        for i in 0..other.row.len / 2 {
-            self.set_run(
-                other.row.at[2 * i] as usize,
-                other.row.at[2 * i + 1] as usize,
-            );
+        let (pairs, _) = other.row.as_slice().as_chunks::<2>();
+        for [first, after] in pairs {
+            self.set_run(usize::from(*first), usize::from(*after));
         }
     }
 
@@ -50,37 +49,28 @@ impl Truth for Packets {
     }
 
     fn write(&self) -> PacketRow {
-        PacketRow {
-            bounds: self.row.at,
-            len: self.row.len,
-        }
+        self.row.row()
     }
 
     fn read(row: PacketRow) -> Packets {
         if !row.keeps_rule() {
             return <Packets as Truth>::empty();
         }
-        let held = Bounds {
-            at: row.bounds,
-            len: row.len,
-        };
-        Packets { row: held }
+        Packets {
+            row: Bounds::of_row(row),
+        }
     }
 }
 
 impl Code for Packets {
     fn put(&mut self, place: usize) -> Result<(), CodeFault> {
-        if place >= PLACES {
-            return Err(CodeFault::PastWidth);
-        }
+        within_width(place)?;
         self.set_run(place, place + 1);
         Ok(())
     }
 
     fn take(&mut self, place: usize) -> Result<(), CodeFault> {
-        if place >= PLACES {
-            return Err(CodeFault::PastWidth);
-        }
+        within_width(place)?;
         self.unset_run(place, place + 1);
         Ok(())
     }
@@ -102,9 +92,7 @@ impl Code for Packets {
         if passed % 2 == 1 {
             return Some(from);
         }
-        if passed < self.row.len {
-            return Some(self.row.at[passed] as usize);
-        }
-        None
+        let bound = self.row.as_slice().get(passed)?;
+        Some(usize::from(*bound))
     }
 }

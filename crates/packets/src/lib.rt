@@ -3,7 +3,6 @@
 
 mod bounds;
 mod code;
-mod fill;
 mod row;
 mod rule;
 mod runs;

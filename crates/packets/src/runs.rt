@@ -1,5 +1,5 @@
 // Setting and unsetting runs of places, on which meet, join, put and take stand, and the complement.
-ghost use Rattle.std.specs.Prelude.{◌≡◌, not, ◌&&◌, ◌||◌, if◌then◌else◌, nat_le, nat_lt};
+ghost use Rattle.std.specs.Prelude.{◌≡◌, ◌≤◌, length, not, ◌&&◌, ◌||◌, if◌then◌else◌, nat_le, nat_lt};
 ghost use Rattle.packets.specs.Bounds.{count_below};
 ghost use Rattle.packets.specs.Packets.{bounds_of, packets_have};
 ghost use Rattle.codes.specs.Sorts.{Agree};
@@ -9,21 +9,14 @@ use super::value::Packets;
 use codes::PLACES;
 
 impl Packets {
-    // How many bounds lie below n, found by halving.
+    // How many bounds lie below n.
     pub(super) fn below(&self, n: usize) -> usize
-        ensures { result ≡ count_below n (bounds_of self.now) }
+        ensures count { result ≡ count_below n (bounds_of self.now) }
+        ensures within { result ≤ length (bounds_of self.now) }
     {
-        let mut low = 0;
-        let mut high = self.row.len;
-        while low < high {
-            let middle = low + (high - low) / 2;
-            if (self.row.at[middle] as usize) < n {
-                low = middle + 1;
-            } else {
-                high = middle;
-            }
-        }
-        low
+        self.row
+            .as_slice()
+            .partition_point(|bound| usize::from(*bound) < n)
     }
 
     // The places from start on and below end are all in or all out, by value; the others are as they were.
@@ -35,13 +28,14 @@ impl Packets {
         if start >= stop {
             return self;
         }
+        let held = self.row.as_slice();
         let before = self.below(start);
         let through = self.below(stop + 1);
         let mut row = Bounds::empty();
-        row.copy(&self.row, 0, before);
+        row.extend(&held[..before]);
         row.push_if((before % 2 == 1) != value, start as u16);
         row.push_if((through % 2 == 1) != value, stop as u16);
-        row.copy(&self.row, through, self.row.len);
+        row.extend(&held[through..]);
         Packets { row }
     }
 
@@ -63,12 +57,13 @@ impl Packets {
     pub(super) fn turned(self) -> Packets
         ensures { Agree 512 (packets_have result) (λ p. not (packets_have self p)) }
     {
+        let held = self.row.as_slice();
         let from = self.below(1);
         let to = self.below(PLACES);
         let mut row = Bounds::empty();
         row.push_if(from == 0, 0);
-        row.copy(&self.row, from, to);
-        row.push_if(to == self.row.len, 512);
+        row.extend(&held[from..to]);
+        row.push_if(to == held.len(), 512);
         Packets { row }
     }
 }

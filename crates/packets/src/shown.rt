@@ -11,7 +11,7 @@ impl Packets {
     pub fn count(&self) -> usize
         ensures { 2 * result ≡ length (bounds_of self.now) }
     {
-        self.row.len / 2
+        self.row.as_slice().len() / 2
     }
 
     // The first place of the packet at this index, and the first place after it. A place belongs where it lies in some packet.
@@ -19,13 +19,9 @@ impl Packets {
         ensures value { result ≡ packet_at (bounds_of self.now) index }
         ensures belongs { (p : ℕ) → Decides (packets_have self.now p) (SomePacketHas (bounds_of self.now) p) }
     {
-        if index >= self.row.len / 2 {
-            return None;
-        }
-        Some((
-            self.row.at[2 * index] as usize,
-            self.row.at[2 * index + 1] as usize,
-        ))
+        let (pairs, _) = self.row.as_slice().as_chunks::<2>();
+        let [first, after] = pairs.get(index)?;
+        Some((usize::from(*first), usize::from(*after)))
     }
 
     // Each set has one packet code: the codes are equal exactly where they mean the same places.
@@ -33,14 +29,6 @@ impl Packets {
         ensures equal { Decides result (self.now ≡ other.now) }
         ensures places { Decides result (Agree 512 (packets_have self.now) (packets_have other.now)) }
     {
-        if self.row.len != other.row.len {
-            return false;
-        }
-        for k in 0..self.row.len {
-            if self.row.at[k] != other.row.at[k] {
-                return false;
-            }
-        }
-        true
+        self == other
     }
 }

@@ -13,7 +13,7 @@ use Rattle.descent.specs.Rings.{ringed}
 use Rattle.questions.specs.Questions.{count_refusal, question_refusal}
 use Rattle.formats.specs.Formats.{answer_of, answer_refusal, names_refusal, nothing_due, not_answer}
 use Rattle.catalogue.specs.Ledger.{Ledger, refused, ask, fit, close, recall, kind_refusal}
-use Rattle.words.proofs.Chain.{passes, all_pass, last_check, unrefused}
+use Rattle.words.proofs.Chain.{passes, each_passes, last_check, unrefused}
 use Rattle.words.proofs.Parts.{low_of, kind_passes}
 use Rattle.formats.proofs.ImageLaws.{names_pass}
 
@@ -43,21 +43,13 @@ module _ (l : Ledger) where
   -- what was not refused had a question that was not
   pub ask_passed : (words : List ℕ) (table working answer : ℕ) → refused l (ask words table working answer) ≡ None → question_refusal (λ k. stands k l.kinds) words ≡ None
   ask_passed words table working answer none =
-      let a = all_pass (list_refusal table l.wide) _ none in
-      let b = all_pass (list_refusal answer (l.wide + 1)) _ a.1 in
-      let c = all_pass (list_refusal working 32) _ b.1 in
-      let d = all_pass (refuse_if (not l.closed) (refusal 12 0 part.Question)) _ c.1 in
-      let e = all_pass (count_refusal words) _ d.1 in
-      (all_pass (question_refusal (λ k. stands k l.kinds) words) [] e.1).0
+      (each_passes (list_refusal table l.wide ∷ list_refusal answer (l.wide + 1) ∷ list_refusal working 32
+      ∷ refuse_if (not l.closed) (refusal 12 0 part.Question) ∷ count_refusal words ∷ question_refusal (λ k. stands k l.kinds) words ∷ []) none).1.1.1.1.1.0
 
   pub fit_passed : (serial : ℕ) (words : List ℕ) (table working : ℕ) → refused l (fit serial words table working) ≡ None → question_refusal (λ k. stands k l.kinds) words ≡ None
   fit_passed serial words table working none =
-      let a = all_pass (list_refusal table l.wide) _ none in
-      let b = all_pass (list_refusal working 32) _ a.1 in
-      let c = all_pass (refuse_if (not l.closed) (refusal 12 0 part.Question)) _ b.1 in
-      let d = all_pass (count_refusal words) _ c.1 in
-      let e = all_pass (kind_refusal l serial) _ d.1 in
-      (all_pass (question_refusal (λ k. stands k l.kinds) words) [] e.1).0
+      (each_passes (list_refusal table l.wide ∷ list_refusal working 32 ∷ refuse_if (not l.closed) (refusal 12 0 part.Question)
+      ∷ count_refusal words ∷ kind_refusal l serial ∷ question_refusal (λ k. stands k l.kinds) words ∷ []) none).1.1.1.1.1.0
 
   pub close_due : (table marks walk ring : ℕ) → (l.wide ≤ table) × (l.wide ≤ marks) × (l.wide ≤ walk) × (l.wide + 1 ≤ ring)
       → refused l (close table marks walk ring) ≡ refuse_if (ringed l.lines) (refusal 11 0 part.Closing)

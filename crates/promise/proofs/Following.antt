@@ -1,5 +1,5 @@
 -- Calls made one after another say what the rules have them say.
-use Rattle.std.proofs.Common.{◌≡◌, ℕ, ◌+◌, ◌<◌, ◌≤◌, List, [], ◌∷◌, ◌++◌, map, length, get_or, take, sym, refl, ap, ◌∙◌, subst}
+use Rattle.std.proofs.Common.{◌≡◌, ℕ, ◌+◌, ◌<◌, ◌≤◌, List, [], ◌∷◌, ◌++◌, map, length, get_or, take, sym, ap, subst}
 use Rattle.std.proofs.lemmas.List.{take_all, map_more}
 use Rattle.std.proofs.lemmas.Bool.{both_ways}
 use Rattle.catalogue.specs.Ledger as ledger
@@ -7,17 +7,16 @@ use Rattle.catalogue.specs.Ledger.{Ledger, after, blank}
 use Rattle.descent.specs.Proper.{CanHold}
 use Rattle.catalogue.specs.Table.{Table}
 use Rattle.catalogue.specs.View.{View}
-use Rattle.promise.specs.declared.calls.Call.{Call}
-use Rattle.promise.specs.Calls.{Rooms, heard, ledger_after}
-use Rattle.promise.specs.Sayings.{Saying, saying}
-use Rattle.promise.specs.Holds.{Holds, Answered, Followed}
-
-ledger_push : (l : Ledger) (cs : List ledger.Call) (c : ledger.Call) → ledger_after l (cs ++ c ∷ []) ≡ after (ledger_after l cs) c
-ledger_push l [] c = refl
-ledger_push l (d ∷ cs) c = ledger_push (after l d) cs c
+use Rattle.histories.specs.declared.calls.Call.{Call}
+use Rattle.histories.specs.Calls.{Rooms, heard, ledger_after}
+use Rattle.histories.specs.Sayings.{Saying, saying}
+use Rattle.histories.specs.Holds.{Holds, Answered}
+use Rattle.promise.specs.Runs.{Followed}
+use Rattle.histories.proofs.Following.{holds_next}
 
 followed_push : (l : Ledger) (cs : List ledger.Call) (ss : List Saying) (c : ledger.Call) (s : Saying) → Followed l cs ss
-    → CanHold (ledger_after l cs).wide (ledger_after l cs).kinds (ledger_after l cs).lines → s ≡ saying (ledger_after l cs) c → Followed l (cs ++ c ∷ []) (ss ++ s ∷ [])
+    → CanHold (ledger_after l cs).wide (ledger_after l cs).kinds (ledger_after l cs).lines → s ≡ saying (ledger_after l cs) c
+    → Followed l (cs ++ c ∷ []) (ss ++ s ∷ [])
 followed_push l [] [] c s f held says = (held, says, tt)
 followed_push l [] (x ∷ ss) c s f held says = absurd f
 followed_push l (d ∷ cs) [] c s f held says = absurd f
@@ -36,18 +35,14 @@ followed_next v v' t t' r r' l cs i d said said' s lt same pushed held step (f, 
     let more : map (heard r) (take (i + 1) cs) ≡ past ++ c ∷ [] = map_more (heard r) cs i d lt in
     let a = subst (λ (q : Rooms). Answered k (heard q (get_or cs i d)) s v' t') same (step k h) in
     let stood = subst (λ (m : Ledger). CanHold m.wide m.kinds m.lines) h.told held in (
-      subst (λ (xs : List ledger.Call). Followed l xs said') (sym more) (subst (λ (ys : List Saying). Followed l (past ++ c ∷ []) ys) (sym pushed) (followed_push l past said c s f stood a.says)),
-      subst (λ (m : Ledger). Holds v' t' m) (sym (ap (ledger_after l) more ∙ ledger_push l past c)) a.left,
+      subst (λ (xs : List ledger.Call). Followed l xs said') (sym more)
+          (subst (λ (ys : List Saying). Followed l (past ++ c ∷ []) ys) (sym pushed) (followed_push l past said c s f stood a.says)),
+      holds_next v v' t t' r r' l cs i d s lt same step h,
     )
 
-pub followed_all : (r : Rooms) (l : Ledger) (cs : List Call) (i : ℕ) (said : List Saying) → length cs ≤ i → Followed l (map (heard r) (take i cs)) said → Followed l (map (heard r) cs) said
+pub followed_all : (r : Rooms) (l : Ledger) (cs : List Call) (i : ℕ) (said : List Saying) → length cs ≤ i
+    → Followed l (map (heard r) (take i cs)) said → Followed l (map (heard r) cs) said
 followed_all r l cs i said le f = subst (λ (ds : List Call). Followed l (map (heard r) ds) said) (take_all i cs le) f
-
-pub same_rooms : (r s : Rooms) → r.table ≡ s.table → r.marks ≡ s.marks → r.walk ≡ s.walk → r.ring ≡ s.ring → r.working ≡ s.working → r.truths ≡ s.truths → r.words ≡ s.words → r ≡ s
-same_rooms r s t m w n k b a = λ i. record { table = t i; marks = m i; walk = w i; ring = n i; working = k i; truths = b i; words = a i }
-
-pub followed_in : (r r' : Rooms) (l : Ledger) (cs : List Call) (said : List Saying) → r ≡ r' → Followed l (map (heard r) cs) said → Followed l (map (heard r') cs) said
-followed_in r r' l cs said same f = subst (λ (q : Rooms). Followed l (map (heard q) cs) said) same f
 
 -- a new catalogue is open, so that any table of its width belongs to it
 pub new_holds : (v : View) (t : Table) → v.book ≡ blank t.across → Holds v t (blank t.across)

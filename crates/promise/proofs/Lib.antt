@@ -1,7 +1,3 @@
-pub mod Prefixes
-pub mod Sayings
-pub mod Closings
-pub mod Holding
 pub mod Following
 pub mod Dues
 pub mod Promised

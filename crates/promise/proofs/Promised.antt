@@ -1,7 +1,7 @@
 -- Calls that said what the rules have them say make the promise.
-use Rattle.std.proofs.Common.{◌≡◌, ℕ, suc, ◌^◌, Bool, true, false, not, ◌&&◌, ltb, ◌⊎◌, ◌↔◌, List, [], ◌∷◌, ◌++◌, length, get_or, Some, None, filter, Option, sym, refl, ap, ◌∙◌, subst, ap₂, inl, inr, arith}
+use Rattle.std.proofs.Common.{◌≡◌, ℕ, suc, ◌^◌, Bool, true, false, not, ltb, ◌⊎◌, ◌↔◌, List, [], ◌∷◌, ◌++◌, length, get_or, Some, None, filter, Option, sym, refl, ap, ◌∙◌, subst, ap₂, inl, inr, arith}
 use Rattle.std.proofs.lemmas.List.Filters.{length-filter_both}
-use Rattle.std.proofs.lemmas.Bool.{and_parts, and_from}
+use Rattle.std.proofs.lemmas.Bool.{false≢true, and_parts, and_from}
 use Rattle.std.proofs.lemmas.Bool.Decides.{nat_tests}
 use Rattle.words.specs.declared.refusal.Refusal.{Refusal}
 use Rattle.words.specs.declared.refusal.Part.TheVariants as part
@@ -14,15 +14,16 @@ use Rattle.descent.specs.Rings.{ringed}
 use Rattle.descent.specs.Coverage.{uppermost}
 use Rattle.descent.proofs.Rings.{ringed_decided}
 use Rattle.descent.proofs.Coverage.{uppermost_decided}
+use Rattle.descent.proofs.Rows.{kept_stands}
 use Rattle.questions.specs.Questions.{question_refusal}
 use Rattle.questions.proofs.Readings.{question_read}
 use Rattle.formats.specs.Formats.{answer_of, answer_refusal}
 use Rattle.catalogue.specs.Ledger.{Ledger, Call, blank, after, refused, ask, fit, set_of, answering, still_standing}
 use Rattle.descent.specs.Proper.{CanHold}
 use Rattle.descent.proofs.Rising.{rising_kept}
-use Rattle.promise.specs.Calls.{ledger_after}
-use Rattle.promise.specs.Sayings.{Saying, done, wrote, verdict, unless_due, saying}
-use Rattle.promise.specs.Holds.{Followed}
+use Rattle.histories.specs.Calls.{ledger_after}
+use Rattle.histories.specs.Sayings.{Saying, done, wrote, verdict, unless_due, saying}
+use Rattle.promise.specs.Runs.{Followed}
 use Rattle.promise.specs.Promise.{Run, Turn, Closing, Recalling, Gave, Judged, Alike, Refuses, answer_by_rules, fit_by_rules, InSet, NamesUppermost, Sound, Promised}
 use Rattle.promise.proofs.Dues.{ask_passed, fit_passed, ask_due, fit_due, close_due, recall_due, answer_accepted}
 
@@ -43,25 +44,20 @@ followed_length k (c ∷ calls) (s ∷ said) (held, says, rest) = ap suc (follow
 -- a closing is refused exactly where the test for rings is passed
 refuses_ring : (b : Bool) (s : Saying) → s ≡ unless_due (refuse_if b (refusal 11 0 part.Closing)) done → Refuses s ↔ (b ≡ true)
 refuses_ring true s e = (λ _. refl, λ _. (refusal 11 0 part.Closing, e))
-refuses_ring false s e = (λ r. let n = r.1 in let z : ◌≡◌ {A = ℕ} 0 1 = cc in absurd (omega arith), λ t. let z : ◌≡◌ {A = ℕ} 0 1 = cc in absurd (omega arith))
+refuses_ring false s e = (λ r. let n = r.1 in cc, λ t. absurd (false≢true t))
 
 -- a call that gave words, or a verdict, was accepted
 gave_words : (due : Option Refusal) (words ws : List ℕ) → wrote words ≡ unless_due due (wrote ws) → (due ≡ None) × (words ≡ ws)
 gave_words None words ws e = (refl, cc)
-gave_words (Some r) words ws e = let z : ◌≡◌ {A = ℕ} 0 1 = cc in absurd (omega arith)
+gave_words (Some r) words ws e = (cc, cc)
 
 gave_verdict : (due : Option Refusal) (a b : Bool) → verdict a ≡ unless_due due (verdict b) → (due ≡ None) × (a ≡ b)
 gave_verdict None a b e = (refl, cc)
-gave_verdict (Some r) a b e = let z : ◌≡◌ {A = ℕ} 0 1 = cc in absurd (omega arith)
+gave_verdict (Some r) a b e = (cc, cc)
 
 below_kept : (w : ℕ) (test : ℕ → Bool) (xs : List ℕ) → below w xs ≡ true → below w (filter test xs) ≡ true
 below_kept w test [] b = refl
 below_kept w test (x ∷ xs) b = let p = and_parts (ltb x w) (below w xs) b in let later = below_kept w test xs p.1 in grind (arith, nat_tests)
-
--- of the kinds that stand in a list, those that pass the test are kept
-kept_stands : (test : ℕ → Bool) (k : ℕ) (xs : List ℕ) → stands k (filter test xs) ≡ (stands k xs && test k)
-kept_stands test k [] = refl
-kept_stands test k (x ∷ xs) = let later = kept_stands test k xs in grind (arith, nat_tests)
 
 -- a question that was not refused reads as the set that the rules give it
 in_set_lem : (l : Ledger) (words : List ℕ) (k : ℕ) → question_refusal (λ m. stands m l.kinds) words ≡ None → InSet l words k (set_of l words k)

@@ -1,4 +1,2 @@
-pub mod Calls
-pub mod Sayings
-pub mod Holds
+pub mod Runs
 pub mod Promise

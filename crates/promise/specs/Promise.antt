@@ -10,10 +10,10 @@ use Rattle.questions.specs.Questions.{count_refusal, question_refusal}
 use Rattle.questions.specs.Readings.{ReadsOnly}
 use Rattle.formats.specs.Formats.{answer_of}
 use Rattle.catalogue.specs.Ledger.{Ledger, Call, blank, close, ask, fit, recall, kind_refusal, set_of, answering, still_standing}
-use Rattle.promise.specs.declared.calls.Call as call
-use Rattle.promise.specs.declared.said.Said.{Said}
-use Rattle.promise.specs.Calls.{Rooms, heard, ledger_after}
-use Rattle.promise.specs.Sayings.{Saying, done, wrote, verdict, stopped, unless_due, shown}
+use Rattle.histories.specs.declared.calls.Call as call
+use Rattle.histories.specs.Calls.{Rooms, heard, ledger_after}
+use Rattle.histories.specs.Sayings.{Saying, done, wrote, verdict, stopped, unless_due}
+use Rattle.promise.specs.Runs.{Kept, shown}
 
 -- a finder that was new, with so many places: the calls on it, with all that they were handed, and what each said
 pub record Run : Type 0 where
@@ -22,7 +22,7 @@ pub record Run : Type 0 where
   pub said : List Saying
 
 -- the run of these calls, handed as much as they say of lists this long
-abbrev pub run_of : ℕ → Rooms → List call.Call → List Said → Run
+abbrev pub run_of : ℕ → Rooms → List call.Call → List Kept → Run
 run_of width rooms calls said = record { width = width; calls = map (heard rooms) calls; said = map shown said }
 
 -- at some time in the run l stood there, this call was made, and this was said

@@ -1,76 +1,33 @@
 // Whole runs of calls on new finders, and the promise that two finders never disagree.
-ghost use Rattle.std.specs.Prelude.{◌≡◌, List, map, length, IfOk, MatchResult};
+ghost use Rattle.std.specs.Prelude.{◌≡◌, List, map, MatchResult};
 ghost use Rattle.catalogue.specs.declared.enter.SetUpFault.TheVariants.{Memory as NoMemory};
-ghost use Rattle.catalogue.specs.Ledger.{Ledger, blank};
-ghost use Rattle.catalogue.specs.Table.{table_of};
-ghost use Rattle.catalogue.specs.View.{view};
-ghost use Rattle.promise.specs.Calls.{rooms, rooms_of, heard};
-ghost use Rattle.promise.specs.Sayings.{shown};
-ghost use Rattle.promise.specs.Holds.{Holds, Followed};
+ghost use Rattle.catalogue.specs.Ledger.{blank};
+ghost use Rattle.histories.specs.Calls.{rooms_of, heard};
+ghost use Rattle.promise.specs.Runs.{shown, Followed};
 ghost use Rattle.promise.specs.Promise.{run_of, Promised};
 
-use super::calls::Call;
-use super::memory::Memory;
-use super::said::Said;
-use super::turns::make;
+use super::keeping::{Kept, keep};
 use catalogue::{Catalogue, SetUpFault};
 use codes::{Code, Truth};
+use histories::{Call, Memory, make};
 use std::alloc::{AllocError, Global};
 
-// Makes the calls in turn, and tells what each said.
-fn follow<C: Code + Drop>(
-    heap: Global,
-    catalogue: &mut Catalogue,
-    table: &mut [C::Row],
-    marks: &mut [u8],
-    walk: &mut [usize],
-    ring: &mut [u32],
-    working: &mut [C::Row],
-    truths: &mut [bool],
-    words: &mut [u32],
-    calls: &[Call<'_>],
-) -> Result<Vec<Said>, AllocError>
-    ensures { IfOk result (λ said. (l : Ledger) → Holds (view catalogue.old) (table_of C.Truth.sort table.old) l → Followed l (map (heard (rooms table.old marks.old walk.old ring.old working.old truths.old words.old)) calls.now) (map shown said.items)) }
-{
-    let mut said = Vec::new(heap);
-    for call in calls {
-        said.push(make::<C>(
-            heap, catalogue, table, marks, walk, ring, working, truths, words, *call,
-        )?)?;
-    }
-    Ok(said)
-}
-
-// Makes the calls on a new catalogue with this memory.
+// Makes the calls on a new catalogue with this memory, and keeps what each said.
 fn run<C: Code + Drop>(
     heap: Global,
-    memory: Memory<C::Row>,
+    mut memory: Memory<C::Row>,
     calls: &[Call<'_>],
-) -> Result<Vec<Said>, SetUpFault>
+) -> Result<Vec<Kept>, SetUpFault>
     ensures { MatchResult result (λ said. Followed (blank C.Truth.sort.width) (map (heard (rooms_of memory)) calls.now) (map shown said.items)) (λ f. f ≡ NoMemory) }
 {
     let mut catalogue = Catalogue::new(heap, C::places())?;
-    let Memory {
-        mut table,
-        mut marks,
-        mut walk,
-        mut ring,
-        mut working,
-        mut truths,
-        mut words,
-    } = memory;
-    let said = follow::<C>(
-        heap,
-        &mut catalogue,
-        &mut table,
-        &mut marks,
-        &mut walk,
-        &mut ring,
-        &mut working,
-        &mut truths,
-        &mut words,
-        calls,
-    )?;
+    let mut lists = memory.lend();
+    let mut said = Vec::new(heap);
+    for call in calls {
+        let reply = make::<C>(&mut catalogue, &mut lists, *call);
+        let kept = keep(heap, reply, &lists)?;
+        said.push(kept).map_err(AllocError::from)?;
+    }
     Ok(said)
 }
 
@@ -82,7 +39,7 @@ pub fn compare<E: Code + Drop, W: Code + Drop>(
     east_calls: &[Call<'_>],
     west_memory: Memory<W::Row>,
     west_calls: &[Call<'_>],
-) -> Result<(Vec<Said>, Vec<Said>), SetUpFault>
+) -> Result<(Vec<Kept>, Vec<Kept>), SetUpFault>
     ensures { MatchResult result (λ said. Promised (run_of E.Truth.sort.width (rooms_of east_memory) east_calls.now said.0.items) (run_of W.Truth.sort.width (rooms_of west_memory) west_calls.now said.1.items)) (λ f. f ≡ NoMemory) }
 {
     let east = run::<E>(heap, east_memory, east_calls)?;

@@ -1,50 +1,53 @@
 -- Where the first kit ends, read off the words of the file.
-use Rattle.std.proofs.Common.{◌≡◌, ℕ, zero, suc, ◌+◌, ◌<◌, ◌≤◌, min, true, false, List, [], ◌∷◌, length, get_or, sym, ◌∙◌, inl, inr, arith}
-use Rattle.std.proofs.lemmas.Bool.{false≢true, not-true, not-false, cases_Bool, cases_order}
-use Rattle.std.proofs.lemmas.List.Sums.{prefix_len-le-length, prefix_len_passes, prefix_len_stops}
+use Rattle.std.proofs.Common.{◌≡◌, ℕ, zero, suc, ◌+◌, ◌-◌, ◌<◌, ◌≤◌, min, Bool, true, false, cond, List, [], ◌∷◌, length, get_or, take, drop, sym, refl, ap, ◌∙◌, ◌⊎◌, inl, inr, arith}
+use Rattle.std.proofs.lemmas.Bool.{not-true, not-false, cases_order}
+use Rattle.std.proofs.lemmas.List.{take_rest}
+use Rattle.std.proofs.lemmas.List.Sums.{prefix_len_passes, prefix_len_stops}
 use Rattle.words.specs.declared.word.WordKind.TheVariants.{AnswerHead}
 use Rattle.words.specs.Words.{is_kind, low_bits}
 use Rattle.protocol.specs.Kits.{inside, before_head, kit_length}
 
-ends_at : (m b l : ℕ) → m ≤ b → m ≤ l → (m < b → m < l → ⊥) → suc m ≡ 1 + min b l
-ends_at m b l le low stop =
-    elim (cases_order m (min b l)) [
-      | inl same ↦ omega (arith, same)
-      | inr q ↦ elim q [ inl less ↦ absurd (stop (omega (arith, less)) (omega (arith, less))) | inr more ↦ absurd (omega (arith, more)) ]
-    ]
+at_most : (b : Bool) (m n : ℕ) → cond b (min m n) m ≤ m
+at_most true m n = omega arith
+at_most false m n = omega arith
 
-ends_before : (m b : ℕ) → m ≤ b → (m < b → ⊥) → suc m ≡ 1 + b
-ends_before m b le stop =
-    elim (cases_order m b) [
-      | inl same ↦ omega (arith, same)
-      | inr q ↦ elim q [ inl less ↦ absurd (stop less) | inr more ↦ absurd (omega (arith, more)) ]
-    ]
+-- no word but the first begins another kit
+pub no_head : (words : List ℕ) (n k : ℕ) → n ≡ kit_length words → 0 < k → k < n → is_kind AnswerHead (get_or words k 0) ≡ false
+no_head [] n k e some less = absurd (omega (arith, e, less))
+no_head (head ∷ rest) n zero e some less = absurd (omega (arith, some))
+no_head (head ∷ rest) n (suc k) e some less =
+    let most = at_most (is_kind AnswerHead head) (before_head rest) (low_bits head) in
+    not-true _ (prefix_len_passes inside rest k 0 (omega (arith, e, less, most)))
 
--- a kit goes on to the next head, to as many words as its own head allows, or to the end
-pub kit_is : (words : List ℕ) (most n : ℕ) → 0 < n → n ≤ length words → n ≤ most
-    → (is_kind AnswerHead (get_or words 0 0) ≡ false → most ≡ length words)
-    → (is_kind AnswerHead (get_or words 0 0) ≡ true → most ≡ low_bits (get_or words 0 0) + 1)
-    → ((k : ℕ) → 0 < k → k < n → is_kind AnswerHead (get_or words k 0) ≡ false)
-    → (n < length words → n < most → is_kind AnswerHead (get_or words n 0) ≡ true)
-    → n ≡ kit_length words
-kit_is [] most n some within low whole counted none next = absurd (omega arith)
-kit_is (head ∷ rest) most zero some within low whole counted none next = absurd (omega arith)
-kit_is (head ∷ rest) most (suc m) some within low whole counted none next =
-    let long = prefix_len-le-length inside rest in
-    let upto : m ≤ before_head rest =
-    elim (cases_order m (before_head rest)) [
-      | inl same ↦ omega (arith, same)
+ends_at : (rest : List ℕ) (b : Bool) (n : ℕ) → cond b (min (before_head rest) n) (before_head rest) < length rest → (is_kind AnswerHead (get_or rest (cond b (min (before_head rest) n) (before_head rest)) 0) ≡ true) ⊎ ((b ≡ true) × (cond b (min (before_head rest) n) (before_head rest) ≡ n))
+ends_at rest false n less = inl (not-false _ (prefix_len_stops inside rest 0 less))
+ends_at rest true n less =
+    elim (cases_order (before_head rest) n) [
+      | inl same ↦ inr (refl, omega (arith, same))
       | inr q ↦
           elim q [
-            | inl less ↦ omega (arith, less)
-            | inr more ↦
-                absurd (false≢true (sym (none (suc (before_head rest)) (omega arith) (omega (arith, more)))
-                ∙ not-false _ (prefix_len_stops inside rest 0 (omega (arith, more, within)))))
+            | inl before ↦
+                let e : min (before_head rest) n ≡ before_head rest = omega (arith, before) in
+                inl (rw e (not-false _ (prefix_len_stops inside rest 0 (omega (arith, e, less)))))
+            | inr after ↦ inr (refl, omega (arith, after))
           ]
-    ] in
-    let stop : m < before_head rest → suc m < most → ⊥ =
-    λ less more. absurd (false≢true (sym (not-true _ (prefix_len_passes inside rest m 0 less)) ∙ next (omega (arith, less, long)) more)) in
-    elim (cases_Bool (is_kind AnswerHead head)) [
-      | inl e ↦ let most_is = counted e in rw e (ends_at m (before_head rest) (low_bits head) upto (omega (arith, low, most_is)) (λ a b. stop a (omega (arith, b, most_is))))
-      | inr e ↦ let most_is = whole e in rw e (ends_before m (before_head rest) upto (λ a. stop a (omega (arith, a, most_is, long))))
     ]
+
+-- it ends before the next head, or with the names that its head counts
+pub kit_ends : (words : List ℕ) (n : ℕ) → n ≡ kit_length words → n < length words → (is_kind AnswerHead (get_or words n 0) ≡ true) ⊎ ((is_kind AnswerHead (get_or words 0 0) ≡ true) × (n ≡ low_bits (get_or words 0 0) + 1))
+kit_ends [] n e less = absurd (omega (arith, less))
+kit_ends (head ∷ rest) zero e less = absurd (omega (arith, e))
+kit_ends (head ∷ rest) (suc m) e less =
+    let same : m ≡ cond (is_kind AnswerHead head) (min (before_head rest) (low_bits head)) (before_head rest) = omega (arith, e) in
+    rw same (elim (ends_at rest (is_kind AnswerHead head) (low_bits head) (omega (arith, same, less))) [
+      | inl next ↦ inl next
+      | inr full ↦ inr (full.0, omega (arith, full.1))
+    ])
+
+-- a first word and so many behind it
+pub kit_is : (words : List ℕ) (b : Bool) (m n : ℕ) → 1 ≤ length words → m ≡ before_head (take (length words - 1) (drop 1 words)) → is_kind AnswerHead (get_or words 0 0) ≡ b → n ≡ cond b (min m (low_bits (get_or words 0 0))) m → n + 1 ≡ kit_length words
+kit_is [] b m n some before head counted = absurd (omega (arith, some))
+kit_is (first ∷ rest) b m n some before head counted =
+    let front : m ≡ before_head rest = before ∙ ap before_head (take_rest (first ∷ rest) 1) in
+    let same : n ≡ cond (is_kind AnswerHead first) (min (before_head rest) (low_bits first)) (before_head rest) = rw (head, sym front) counted in
+    omega (arith, same)

@@ -1,13 +1,16 @@
 // The answer lines of the protocol: what comes back for a call. Without memory for the whole line, nothing is written.
+// They are no Display: where `write!` to a Vec fails, the library promises nothing of what the Vec holds then. So the text of a
+// refusal is written piece by piece here, though `Refusal` has it as its Display.
 ghost use Rattle.std.specs.Prelude.{◌≡◌, ◌++◌};
 ghost use Rattle.std.specs.List.{flat_map};
 ghost use Rattle.terminal.specs.Numbers.{Appends};
-ghost use Rattle.protocol.specs.Answers.{ok_line, ok_words, ok_verdict, ok_kits, part_name, refusal, refused_line, ring_line};
+ghost use Rattle.protocol.specs.Answers.{ok_line, ok_words, ok_verdict, ok_kits, refused_line, ring_line};
+ghost use Rattle.words.specs.Refusals.{refusal_text};
 ghost use Rattle.protocol.specs.Pieces.{bytes_of};
 
 use super::pieces::{Piece, write_pieces};
 use std::alloc::AllocError;
-use words::{Part, Refusal};
+use words::Refusal;
 
 pub fn write_ok(out: &mut Vec<u8>) -> Result<(), AllocError>
     ensures { Appends result out.old.items ok_line out.new.items }
@@ -77,7 +80,7 @@ fn write_refused_with(
     told: Refusal,
     behind: &[Piece<'_>],
 ) -> Result<(), AllocError>
-    ensures { Appends result out.old.items (refusal told ++ flat_map bytes_of behind.now) out.new.items }
+    ensures { Appends result out.old.items (refusal_text told ++ flat_map bytes_of behind.now) out.new.items }
 {
     let start = out.len();
     write_refused(out, told)?;
@@ -90,7 +93,7 @@ fn write_refused_with(
 
 // A refusal without a line break.
 fn write_refused(out: &mut Vec<u8>, told: Refusal) -> Result<(), AllocError>
-    ensures { Appends result out.old.items (refusal told) out.new.items }
+    ensures { Appends result out.old.items (refusal_text told) out.new.items }
 {
     write_pieces(
         out,
@@ -100,23 +103,7 @@ fn write_refused(out: &mut Vec<u8>, told: Refusal) -> Result<(), AllocError>
             Piece::Text(b" at "),
             Piece::Number(told.index as u64),
             Piece::Text(b" by "),
-            Piece::Text(part_name(told.part)),
+            Piece::Text(told.part.name().as_bytes()),
         ],
     )
-}
-
-fn part_name(part: Part) -> &'static [u8]
-    ensures { result.now ≡ part_name part }
-{
-    match part {
-        Part::Lists => b"lists",
-        Part::Serial => b"serial",
-        Part::Kind => b"kind",
-        Part::Line => b"line",
-        Part::Closing => b"closing",
-        Part::Question => b"question",
-        Part::Image => b"image",
-        Part::Answer => b"answer",
-        Part::Code => b"code",
-    }
 }

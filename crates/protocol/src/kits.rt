@@ -2,7 +2,7 @@
 ghost use Rattle.std.specs.Prelude.{◌≡◌, ℕ, ◌+◌, ◌<◌, ◌≤◌, true, false, ◌⊎◌, length, slice_index};
 ghost use Rattle.words.specs.declared.word.WordKind.TheVariants.{AnswerHead};
 ghost use Rattle.words.specs.Words.{is_kind, low_bits};
-ghost use Rattle.protocol.specs.Kits.{kit_length};
+ghost use Rattle.protocol.specs.Kits.{before_head, kit_length};
 
 use words::{WordKind, is_kind, low_bits};
 
@@ -16,27 +16,24 @@ pub fn kit_length(words: &[u32]) -> usize
     ensures counted { is_kind AnswerHead (slice_index words.now 0) ≡ true → result ≤ low_bits (slice_index words.now 0) + 1 }
     ensures stops { result < length words.now → (is_kind AnswerHead (slice_index words.now result) ≡ true) ⊎ ((is_kind AnswerHead (slice_index words.now 0) ≡ true) × (result ≡ low_bits (slice_index words.now 0) + 1)) }
 {
-    if words.is_empty() {
+    let [head, rest @ ..] = words else {
         return 0;
+    };
+    let inside = before_head(rest);
+    if is_kind(*head, WordKind::AnswerHead) {
+        inside.min(low_bits(*head) as usize) + 1
+    } else {
+        inside + 1
     }
-    let most = most_words(words);
-    let mut end = 1;
-    while end < words.len() && end < most && !is_kind(words[end], WordKind::AnswerHead) {
-        end += 1;
-    }
-    end
 }
 
-// As many words as the head of the first kit allows it.
-fn most_words(words: &[u32]) -> usize
-    requires { 0 < length words.now }
-    ensures some { 0 < result }
-    ensures whole { is_kind AnswerHead (slice_index words.now 0) ≡ false → result ≡ length words.now }
-    ensures counted { is_kind AnswerHead (slice_index words.now 0) ≡ true → result ≡ low_bits (slice_index words.now 0) + 1 }
+// How many words come before the next head.
+fn before_head(words: &[u32]) -> usize
+    ensures value { result ≡ before_head words.now }
+    ensures within { result ≤ length words.now }
 {
-    if is_kind(words[0], WordKind::AnswerHead) {
-        low_bits(words[0]) as usize + 1
-    } else {
-        words.len()
-    }
+    words
+        .iter()
+        .take_while(|word| !is_kind(**word, WordKind::AnswerHead))
+        .count()
 }

@@ -24,7 +24,8 @@ fn write_piece(out: &mut Vec<u8>, piece: Piece<'_>) -> Result<(), AllocError>
     }
 }
 
-// Without memory for them all, leaves `out` as it was.
+// Without memory for them all, leaves `out` as it was. The other functions that cut `out` back do it by hand as here: one that took
+// the writing as a closure would have to require that it may be called, and could promise only what the closure tells of itself.
 pub(super) fn write_pieces(out: &mut Vec<u8>, pieces: &[Piece<'_>]) -> Result<(), AllocError>
     ensures { Appends result out.old.items (flat_map bytes_of pieces.now) out.new.items }
 {

@@ -2,7 +2,9 @@
 use Rattle.std.proofs.Common.{◌≡◌, ℕ, ◌+◌, ◌*◌, ◌^◌, ◌<◌, ◌≤◌, Bool, false, not, ◌&&◌, ◌||◌, List, [], ◌∷◌, ◌++◌, length, get_or, Some, None, Option, sym, refl, ap, ◌∙◌, subst, append_assoc, append-nil, arith}
 use Rattle.std.proofs.lemmas.Nat.{div-add-mod', div-mul-add, mod-mul-add, mod_below}
 use Rattle.std.proofs.lemmas.Bool.Decides.{nat_tests}
+use Rattle.words.proofs.Chain.{each_passes}
 use Rattle.words.specs.declared.refusal.Refusal.{Refusal}
+use Rattle.words.specs.declared.word.LowBits.{LowBits}
 use Rattle.words.specs.declared.word.LowBits.TheVariants as low
 use Rattle.words.specs.declared.word.StackEffect.{StackEffect}
 use Rattle.words.specs.declared.word.WordKind.{WordKind}
@@ -12,7 +14,6 @@ use Rattle.words.specs.Words.{kind_number, low_bits, number_of, word_of, taking,
 use Rattle.questions.specs.Questions.{on_top, on_two, applied, applied_word, holds, parts_refusal, word_refusal, words_refusal, depth_after}
 use Rattle.questions.specs.Readings.{Reads, name, whole, nothing, lack, meet, join, QuestionRead}
 use Rattle.questions.proofs.Table.{row_of, row_by_kind}
-use Rattle.questions.proofs.Values.{none_of_two}
 
 -- wherever the words stand, they leave one entry more, which is x
 abbrev Leaves : (ℕ → Bool) → Bool → List ℕ → Bool → Type 0
@@ -34,16 +35,19 @@ refused r e = let z : ◌≡◌ {A = ℕ} 0 1 = cc in omega arith
 zero_asked : (standing : ℕ → Bool) (i d t n : ℕ) → parts_refusal standing i d (taking t) low.Zero n ≡ None → (n ≡ 0) × (t ≤ d)
 zero_asked standing i d t n e = (grind (arith, nat_tests), grind (arith, nat_tests))
 
--- a word of a question has its kind's number
+-- a word that is not refused has an effect
+effect_of : (standing : ℕ → Bool) (i d : ℕ) (o : Option StackEffect) (lows : LowBits) (n : ℕ) → parts_refusal standing i d o lows n ≡ None → (e : StackEffect) × (o ≡ Some e)
+effect_of standing i d None lows n fine = absurd (refused _ fine)
+effect_of standing i d (Some e) lows n fine = (e, refl)
+
+-- and its kind's number
 number_by_effect : (n : ℕ) (e : StackEffect) → (rule_of n).effect ≡ Some e → n ≡ number_of (rule_of n).kind
 number_by_effect n e s = grind arith
 
 number_by_rule : (standing : ℕ → Bool) (i d w : ℕ) → word_refusal standing i d w ≡ None → kind_number w ≡ number_of (rule_of (kind_number w)).kind
-number_by_rule standing i d w fine = go (rule_of (kind_number w)).effect refl
-  where
-    go : (effect : Option StackEffect) → (rule_of (kind_number w)).effect ≡ effect → kind_number w ≡ number_of (rule_of (kind_number w)).kind
-    go None e = absurd (refused _ (subst (λ (o : Option StackEffect). parts_refusal standing i d o (rule_of (kind_number w)).low (low_bits w) ≡ None) e fine))
-    go (Some effect) e = number_by_effect (kind_number w) effect e
+number_by_rule standing i d w fine =
+    let has = effect_of standing i d (rule_of (kind_number w)).effect (rule_of (kind_number w)).low (low_bits w) fine in
+    number_by_effect (kind_number w) has.0 has.1
 
 -- it is made of its kind and its low bits
 word_is : (standing : ℕ → Bool) (i d w : ℕ) → word_refusal standing i d w ≡ None → word_of (rule_of (kind_number w)).kind (low_bits w) ≡ w
@@ -139,9 +143,9 @@ module _ (named : ℕ → Bool) (all : Bool) where
   words_read standing i done entries [] s fine = rw append-nil (one_left done entries (grind (arith, nat_tests)) s)
   words_read standing i done entries (w ∷ words) s fine =
       let d : ℕ = depth_after (length entries) (rule_of (kind_number w)).effect in
-      let both = none_of_two (word_refusal standing i (length entries) w) (words_refusal standing (i + 1) d words) fine in
-      let kept = word_keeps standing i w done entries s both.0 in
-      let later : words_refusal standing (i + 1) (length (applied_word named all w entries)) words ≡ None = rw kept.1 both.1 in
+      let passed = each_passes (word_refusal standing i (length entries) w ∷ words_refusal standing (i + 1) d words ∷ []) fine in
+      let kept = word_keeps standing i w done entries s passed.0 in
+      let later : words_refusal standing (i + 1) (length (applied_word named all w entries)) words ≡ None = rw kept.1 passed.1.0 in
       rw (append_assoc done (w ∷ []) words) at (words_read standing (i + 1) (done ++ w ∷ []) (applied_word named all w entries) words kept.0 later)
 
 pub question_read : QuestionRead

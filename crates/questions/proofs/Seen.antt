@@ -1,15 +1,18 @@
 -- What each place sees of the entries as words are carried out.
 use Rattle.std.proofs.Common.{◌≡◌, ℕ, ◌+◌, ◌-◌, Bool, [], ◌∷◌, ◌++◌, map, reverse, length, sym, ap, ◌∙◌, arith}
-use Rattle.std.proofs.lemmas.List.{reverse-append}
+use Rattle.std.proofs.lemmas.List.{length_push, reverse-append}
 use Rattle.codes.specs.Sorts.{Sort, Agree}
 use Rattle.stack.specs.declared.lent.Stack.{Stack}
 use Rattle.stack.specs.Held.{held, SameSlots}
-use Rattle.stack.proofs.Depths.{length-held_more}
 use Rattle.questions.specs.Questions.{on_top, on_two}
 use Rattle.questions.specs.Entries.{seen, Turned}
 
 same_slots_trans : {R : Type 0} (s t u : Stack R) → SameSlots s t → SameSlots t u → SameSlots s u
 same_slots_trans s t u p q = (q.0 ∙ p.0, q.1 ∙ p.1)
+
+-- one entry more
+length-held_more : {R : Type 0} (old new : Stack R) (row : R) → held new ≡ held old ++ row ∷ [] → length (held new) ≡ length (held old) + 1
+length-held_more old new row e = ap length e ∙ length_push (held old) row
 
 -- an entry on top
 pub seen_more : {S R : Type 0} (sort : Sort S R) (p : ℕ) (old new : Stack R) (row : R) → held new ≡ held old ++ row ∷ [] → seen sort p new ≡ sort.reads row p ∷ seen sort p old

@@ -1,23 +1,16 @@
 -- What the value of a question that is not refused hangs on, and that it lies within all.
-use Rattle.std.proofs.Common.{◌≡◌, ℕ, ◌+◌, Bool, true, false, not, ◌&&◌, ◌||◌, List, [], ◌∷◌, get_or, Some, None, Option, refl, ap, ◌∙◌, subst, ⊎_elim, arith}
+use Rattle.std.proofs.Common.{◌≡◌, ℕ, ◌+◌, Bool, true, false, not, ◌&&◌, ◌||◌, List, [], ◌∷◌, get_or, None, refl, ap, ◌∙◌, subst, ⊎_elim, arith}
 use Rattle.std.proofs.lemmas.Bool.{and_parts, or_cases, false≢true}
 use Rattle.std.proofs.lemmas.Bool.Decides.{nat_tests}
 use Rattle.std.specs.List.{AllByRecursion as All}
-use Rattle.words.specs.declared.refusal.Refusal.{Refusal}
 use Rattle.words.specs.declared.word.LowBits.TheVariants as low
 use Rattle.words.specs.declared.word.WordKind.{WordKind}
 use Rattle.words.specs.declared.word.WordKind.TheVariants as kind
 use Rattle.words.specs.declared.word.WordRule.{WordRule}
-use Rattle.words.specs.Refusals.{first_of}
 use Rattle.words.specs.Words.{kind_number, low_bits, rule_of, taking}
 use Rattle.questions.specs.Questions.{applied, applied_word, holds, parts_refusal, word_refusal, words_refusal, question_refusal, depth_after, on_top, on_two}
+use Rattle.words.proofs.Chain.{each_passes}
 use Rattle.questions.proofs.Table.{row_by_kind}
-
--- of two refusals in order neither applies
-pub none_of_two : (a b : Option Refusal) → first_of (a ∷ b ∷ []) ≡ None → (a ≡ None) × (b ≡ None)
-none_of_two None None e = (refl, refl)
-none_of_two None (Some r) e = let z : ◌≡◌ {A = ℕ} 0 1 = cc in absurd (omega arith)
-none_of_two (Some r) b e = let z : ◌≡◌ {A = ℕ} 0 1 = cc in absurd (omega arith)
 
 -- a name in a question that is not refused stands
 stands : (standing : ℕ → Bool) (i d n : ℕ) → parts_refusal standing i d (taking 0) low.Serial n ≡ None → standing n ≡ true
@@ -46,8 +39,8 @@ applied_agrees named other all kind.ImageEnd k entries same = refl
 holds_agrees_from : (standing named other : ℕ → Bool) (all : Bool) → ((k : ℕ) → standing k ≡ true → named k ≡ other k) → (i d : ℕ) (entries : List Bool) (words : List ℕ) → words_refusal standing i d words ≡ None → holds named all entries words ≡ holds other all entries words
 holds_agrees_from standing named other all same i d entries [] fine = refl
 holds_agrees_from standing named other all same i d entries (w ∷ words) fine =
-    let both = none_of_two (word_refusal standing i d w) (words_refusal standing (i + 1) (depth_after d (rule_of (kind_number w)).effect) words) fine in
-    holds_agrees_from standing named other all same (i + 1) (depth_after d (rule_of (kind_number w)).effect) (applied_word named all w entries) words both.1
+    let both = each_passes (word_refusal standing i d w ∷ words_refusal standing (i + 1) (depth_after d (rule_of (kind_number w)).effect) words ∷ []) fine in
+    holds_agrees_from standing named other all same (i + 1) (depth_after d (rule_of (kind_number w)).effect) (applied_word named all w entries) words both.1.0
     ∙ ap (λ left. holds other all left words) (applied_agrees named other all (rule_of (kind_number w)).kind (low_bits w) entries (λ is. same (low_bits w) (name-stands standing i d w both.0 is)))
 
 -- the value hangs on the values of the kinds that stand alone
@@ -89,10 +82,10 @@ first_lies all (b ∷ rest) each = each.0
 holds_within_from : (standing named : ℕ → Bool) (all : Bool) → ((k : ℕ) → standing k ≡ true → Lies all (named k)) → (i d : ℕ) (entries : List Bool) (words : List ℕ) → All (Lies all) entries → words_refusal standing i d words ≡ None → Lies all (holds named all entries words)
 holds_within_from standing named all within i d entries [] each fine = first_lies all entries each
 holds_within_from standing named all within i d entries (w ∷ words) each fine =
-    let both = none_of_two (word_refusal standing i d w) (words_refusal standing (i + 1) (depth_after d (rule_of (kind_number w)).effect) words) fine in
+    let both = each_passes (word_refusal standing i d w ∷ words_refusal standing (i + 1) (depth_after d (rule_of (kind_number w)).effect) words ∷ []) fine in
     holds_within_from standing named all within (i + 1) (depth_after d (rule_of (kind_number w)).effect) (applied_word named all w entries) words
     (applied_lies named all (rule_of (kind_number w)).kind (low_bits w) entries (λ is. within (low_bits w) (name-stands standing i d w both.0 is)) each)
-    both.1
+    both.1.0
 
 -- the value lies within all, where the values of the kinds that stand do
 pub holds_within : (standing named : ℕ → Bool) (all : Bool) (words : List ℕ) → ((k : ℕ) → standing k ≡ true → named k ≡ true → all ≡ true) → question_refusal standing words ≡ None → holds named all [] words ≡ true → all ≡ true

@@ -1,5 +1,5 @@
 -- The entries of a stack of rows, as seen at one place.
-use Rattle.std.specs.Prelude.{◌≡◌, ℕ, ◌<◌, ◌≤◌, Bool, List, [], ◌∷◌, map, reverse, length, Some, None, Option, slice_index_or}
+use Rattle.std.specs.Prelude.{◌≡◌, ℕ, ◌<◌, ◌≤◌, Bool, List, map, reverse, length, Some, None, Option, slice_index_or}
 use Rattle.words.specs.declared.word.StackEffect.{StackEffect}
 use Rattle.words.specs.Words.{kind_number, rule_of}
 use Rattle.codes.specs.Sorts.{Sort, Agree}
@@ -34,7 +34,3 @@ Stepped sort named whole w old new =
 -- the first row is read as this set
 abbrev pub FirstReads : {S R : Type 0} → Sort S R → (ℕ → Bool) → List R → Type 0
 FirstReads {S} {R} sort set rows = (d : R) → Agree sort.width (sort.reads (slice_index_or rows 0 d)) set
-
--- one row is left, and is read as this set
-abbrev pub LeftAlone : {S R : Type 0} → Sort S R → (ℕ → Bool) → Stack R → Type 0
-LeftAlone {S} {R} sort set stack = (row : R) × (held stack ≡ row ∷ []) × Agree sort.width (sort.reads row) set

@@ -2,3 +2,4 @@ pub mod Questions
 pub mod Reading
 pub mod Entries
 pub mod Readings
+pub mod Values

@@ -9,7 +9,7 @@ pub const MAX_WORDS: usize = 1_024;
 pub fn check_count(words: &[u32]) -> Result<(), QuestionFault>
     ensures { Says question_told result (count_refusal words.now) }
 {
-    if words.len() == 0 || words.len() > MAX_WORDS {
+    if words.is_empty() || words.len() > MAX_WORDS {
         return Err(QuestionFault::WordCount);
     }
     Ok(())

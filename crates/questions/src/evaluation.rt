@@ -1,9 +1,8 @@
 // Evaluates a question in memory that the caller lends.
 ghost use Rattle.std.specs.Prelude.{◌≡◌, [], ◌∷◌, length, drop, OnOk};
-ghost use Rattle.stack.specs.Held.{held, room, SameSlots};
 ghost use Rattle.words.specs.Refusals.{Says, question_told, first_of, list_refusal};
 ghost use Rattle.questions.specs.Questions.{most_entries, question_refusal, count_refusal, value_of};
-ghost use Rattle.questions.specs.Entries.{FirstReads, LeftAlone};
+ghost use Rattle.questions.specs.Entries.{FirstReads};
 
 use super::checks::MAX_ENTRIES;
 use super::count::check_count;
@@ -14,30 +13,8 @@ use codes::Truth;
 use stack::Stack;
 use words::QuestionFault;
 
-// Carries out every word, from an empty stack on.
+// Carries out every word, from an empty stack on, and leaves the question's value in the first of the slots that it works in.
 fn run<T: Truth + Drop, N: Names<T>>(
-    words: &[u32],
-    names: &N,
-    stack: &mut Stack<'_, T::Row>,
-) -> Result<(), QuestionFault>
-    requires empty { held stack.old ≡ [] }
-    requires room { room stack.old ≡ most_entries }
-    ensures refused { Says question_told result (question_refusal (N.Names.standing names.now) words.now) }
-    ensures value { OnOk result (LeftAlone T.Truth.sort (value_of (N.Names.named names.now) (N.Names.whole names.now) words.now) stack.new) }
-    ensures slots { SameSlots stack.old stack.new }
-{
-    let mut reader = Reader::new(words);
-    while let Some(placed) = reader.next_word() {
-        step::<T, N>(names, placed, stack)?;
-    }
-    if stack.depth() != 1 {
-        return Err(QuestionFault::NotOneLeft);
-    }
-    Ok(())
-}
-
-// Leaves the question's value in the first of the slots that it works in.
-fn work<T: Truth + Drop, N: Names<T>>(
     words: &[u32],
     names: &N,
     slots: &mut [T::Row],
@@ -47,7 +24,13 @@ fn work<T: Truth + Drop, N: Names<T>>(
     ensures value { OnOk result (FirstReads T.Truth.sort (value_of (N.Names.named names.now) (N.Names.whole names.now) words.now) slots.new) }
 {
     let mut stack = Stack::new(slots);
-    run::<T, N>(words, names, &mut stack)
+    for placed in Reader::new(words) {
+        step::<T, N>(names, placed, &mut stack)?;
+    }
+    if stack.depth() != 1 {
+        return Err(QuestionFault::NotOneLeft);
+    }
+    Ok(())
 }
 
 // Leaves the question's value in the first slot. The slots up to the most entries are worked in; the others stay.
@@ -62,5 +45,5 @@ pub fn evaluate<T: Truth + Drop, N: Names<T>>(
 {
     words::need(slots.len(), MAX_ENTRIES)?;
     check_count(words)?;
-    work::<T, N>(words, names, &mut slots[0..MAX_ENTRIES])
+    run::<T, N>(words, names, &mut slots[0..MAX_ENTRIES])
 }

@@ -8,6 +8,7 @@ pub struct PlacedWord {
     pub word: u32,
 }
 
+// A place of its own over the question's words, which lie where the caller has them.
 #[derive(Drop)]
 pub struct Reader<'a> {
     pub(super) words: &'a [u32],

@@ -1,5 +1,6 @@
 // Reads the words of a question one by one, where they lie.
 ghost use Rattle.std.specs.Prelude.{◌≡◌, ◌+◌, [], ◌∷◌, MatchOption};
+ghost use Rattle.std.specs.Iterator.{item_count};
 ghost use Rattle.questions.specs.Reading.{unread, place};
 
 use super::lent::{PlacedWord, Reader};
@@ -11,19 +12,22 @@ impl<'a> Reader<'a> {
     {
         Reader { words, at: 0 }
     }
+}
 
-    // The next word, if one is left.
-    pub fn next_word(&mut self) -> Option<PlacedWord>
-        ensures { MatchOption result ((unread self.old ≡ []) × (self.new ≡ self.old)) (λ next. (next.index ≡ place self.old) × (place self.new ≡ place self.old + 1) × (unread self.old ≡ next.word ∷ unread self.new)) }
-    {
-        if self.at == self.words.len() {
-            return None;
-        }
-        let next = PlacedWord {
-            index: self.at,
-            word: self.words[self.at],
-        };
+impl<'a> Iterator for Reader<'a> {
+    type Item = PlacedWord;
+
+    // Where no word is left, nothing changes.
+    ghost next_gives = { λ old result new. MatchOption result
+        ((unread old ≡ []) × (new ≡ old))
+        (λ next. (next.index ≡ place old) × (place new ≡ place old + 1) × (unread old ≡ next.word ∷ unread new)) };
+
+    ghost remaining = { item_count unread };
+
+    fn next(&mut self) -> Option<PlacedWord> {
+        let word = *self.words.get(self.at)?;
+        let index = self.at;
         self.at += 1;
-        Some(next)
+        Some(PlacedWord { index, word })
     }
 }

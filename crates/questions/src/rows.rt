@@ -4,22 +4,6 @@ ghost use Rattle.codes.specs.Sorts.{Agree};
 
 use codes::Truth;
 
-pub(super) fn met<T: Truth + Drop>(a: T::Row, b: T::Row) -> T::Row
-    ensures { Agree T.Truth.sort.width (T.Truth.sort.reads result) (λ p. T.Truth.sort.reads a p && T.Truth.sort.reads b p) }
-{
-    let mut value = T::read(a);
-    value.meet(&T::read(b));
-    value.write()
-}
-
-pub(super) fn joined<T: Truth + Drop>(a: T::Row, b: T::Row) -> T::Row
-    ensures { Agree T.Truth.sort.width (T.Truth.sort.reads result) (λ p. T.Truth.sort.reads a p || T.Truth.sort.reads b p) }
-{
-    let mut value = T::read(a);
-    value.join(&T::read(b));
-    value.write()
-}
-
 // What of all is not in a.
 pub(super) fn lacked<T: Truth + Drop>(all: T::Row, a: T::Row) -> T::Row
     ensures { Agree T.Truth.sort.width (T.Truth.sort.reads result) (λ p. T.Truth.sort.reads all p && not (T.Truth.sort.reads a p)) }

@@ -1,5 +1,5 @@
 // One word of a question, carried out on the stack.
-ghost use Rattle.std.specs.Prelude.{◌≡◌, ℕ, ◌+◌, ◌-◌, ◌<◌, ◌≤◌, not, ◌&&◌, ◌||◌, [], ◌∷◌, ◌++◌, length, OnOk};
+ghost use Rattle.std.specs.Prelude.{◌≡◌, ℕ, ◌+◌, ◌-◌, ◌<◌, ◌≤◌, Bool, not, ◌&&◌, ◌||◌, [], ◌∷◌, ◌++◌, length, OnOk};
 ghost use Rattle.codes.specs.Sorts.{Agree};
 ghost use Rattle.stack.specs.Held.{held, room, SameSlots};
 ghost use Rattle.words.specs.declared.word.LowBits.TheVariants as low;
@@ -11,7 +11,7 @@ ghost use Rattle.questions.specs.Entries.{Turned, Fitting, Stepped};
 use super::checks::{check_effect, named_row};
 use super::lent::PlacedWord;
 use super::names::Names;
-use super::rows::{joined, lacked, met, nothing};
+use super::rows::{lacked, nothing};
 use codes::Truth;
 use stack::Stack;
 use words::{QuestionFault, WordKind};
@@ -31,30 +31,25 @@ fn taken<R: Copy>(stack: &mut Stack<'_, R>) -> R
     ensures after { held stack.old ≡ held stack.new ++ result ∷ [] }
     ensures slots { SameSlots stack.old stack.new }
 {
-    match stack.pop() {
-        Some(row) => row,
-        None => unreachable(),
-    }
+    stack.pop().unwrap()
 }
 
-fn meet_top<T: Truth + Drop>(stack: &mut Stack<'_, T::Row>)
-    requires { 2 ≤ length (held stack.old) }
-    ensures { Turned T.Truth.sort (λ _. on_two ◌&&◌) (length (held stack.old) - 1) stack.old stack.new }
+// The two values on top become one, as the change leaves the lower by the upper: whatever it computes place by place.
+fn combine<T: Truth + Drop, F: FnOnce(&mut T, &T)>(stack: &mut Stack<'_, T::Row>, change: F)
+    requires deep { 2 ≤ length (held stack.old) }
+    requires callable { F.IsAlwaysCallable change }
+    ensures { (f : Bool → Bool → Bool) →
+        ((a b left : _) → F.post change a b tt left →
+        Agree T.Truth.sort.width (T.Truth.sort.means left.now) (λ p. f (T.Truth.sort.means a.now p) (T.Truth.sort.means b.now p))) →
+        Turned T.Truth.sort (λ _. on_two f) (length (held stack.old) - 1) stack.old stack.new }
 {
-    let b = taken(stack);
-    let a = taken(stack);
-    put(stack, met::<T>(a, b));
+    let b = T::read(taken(stack));
+    let mut a = T::read(taken(stack));
+    change(&mut a, &b);
+    put(stack, a.write());
 }
 
-fn join_top<T: Truth + Drop>(stack: &mut Stack<'_, T::Row>)
-    requires { 2 ≤ length (held stack.old) }
-    ensures { Turned T.Truth.sort (λ _. on_two ◌||◌) (length (held stack.old) - 1) stack.old stack.new }
-{
-    let b = taken(stack);
-    let a = taken(stack);
-    put(stack, joined::<T>(a, b));
-}
-
+// The value on top becomes what of all is not in it.
 fn lack_top<T: Truth + Drop>(stack: &mut Stack<'_, T::Row>, all: T::Row)
     requires { 1 ≤ length (held stack.old) }
     ensures { Turned T.Truth.sort (λ p. on_top (λ a. T.Truth.sort.reads all p && not a)) (length (held stack.old)) stack.old stack.new }
@@ -71,8 +66,8 @@ fn operate<T: Truth + Drop, N: Names<T>>(names: &N, word: u32, stack: &mut Stack
     ensures { Stepped T.Truth.sort (N.Names.named names.now) (N.Names.whole names.now) word stack.old stack.new }
 {
     match words::rule(word).kind {
-        WordKind::And => meet_top::<T>(stack),
-        WordKind::Or => join_top::<T>(stack),
+        WordKind::And => combine::<T, _>(stack, T::meet),
+        WordKind::Or => combine::<T, _>(stack, T::join),
         WordKind::Not => lack_top::<T>(stack, names.all()),
         WordKind::All => put(stack, names.all()),
         WordKind::Nothing => put(stack, nothing::<T>()),
@@ -80,7 +75,7 @@ fn operate<T: Truth + Drop, N: Names<T>>(names: &N, word: u32, stack: &mut Stack
     }
 }
 
-// Carries out a word, or refuses it.
+// Carries out a word, or refuses it. Names and stack stay apart: a struct of both would have to promise with each word that its names stay.
 pub(super) fn step<T: Truth + Drop, N: Names<T>>(
     names: &N,
     placed: PlacedWord,

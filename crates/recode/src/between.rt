@@ -1,22 +1,10 @@
 // Both ways between bits and packets.
-ghost use Rattle.std.specs.Prelude.{◌≡◌, ℕ, ◌<◌, ◌≤◌, true, false};
+ghost use Rattle.std.specs.Prelude.{◌≡◌};
 ghost use Rattle.recode.specs.Between.{Twins};
 
 use bits::Bits;
 use codes::{Code, PLACES, Truth};
 use packets::Packets;
-
-// The least place from this one up, or the width where there is none.
-fn next_or_end<C: Code>(code: &C, from: usize) -> usize
-    ensures within { result ≤ C.Truth.sort.width }
-    ensures here { result < C.Truth.sort.width → (from ≤ result) × (C.Truth.sort.means code.now result ≡ true) }
-    ensures before { (p : ℕ) → from ≤ p → p < result → C.Truth.sort.means code.now p ≡ false }
-{
-    match code.next(from) {
-        Some(place) => place,
-        None => C::places(),
-    }
-}
 
 // The one packet code of these bits, run by run: a run begins at a place that is in, and ends at the next that is out.
 pub fn packets_of(bits: &Bits) -> Packets
@@ -25,11 +13,12 @@ pub fn packets_of(bits: &Bits) -> Packets
     let mut gaps = *bits;
     gaps.complement();
     let mut packets = <Packets as Truth>::empty();
-    let mut start = next_or_end(bits, 0);
-    while start < PLACES {
-        let end = next_or_end(&gaps, start);
+    // No range to go over: each search begins where the last run ended.
+    let mut from = 0;
+    while let Some(start) = bits.next(from) {
+        let end = gaps.next(start).unwrap_or(PLACES);
         packets.set_run(start, end);
-        start = next_or_end(bits, end);
+        from = end;
     }
     packets
 }
@@ -39,10 +28,11 @@ pub fn bits_of(packets: &Packets) -> Bits
     ensures { Twins result packets.now }
 {
     let mut bits = <Bits as Truth>::empty();
-    let mut place = next_or_end(packets, 0);
-    while place < PLACES {
+    // As above: only the places that are in are met.
+    let mut from = 0;
+    while let Some(place) = packets.next(from) {
         let _ = bits.put(place);
-        place = next_or_end(packets, place + 1);
+        from = place + 1;
     }
     bits
 }

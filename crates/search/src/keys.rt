@@ -21,7 +21,7 @@ impl Keyed for Kind {
     }
 }
 
-// By rising child, then rising parent.
+// By rising child, then rising parent. One number and no pair, so that kinds, lines and words are searched by one contract over numbers.
 impl Keyed for Line {
     ghost key = { line_key };
 

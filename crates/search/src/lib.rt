@@ -5,4 +5,4 @@ mod keys;
 mod spot;
 
 pub use keys::Keyed;
-pub use spot::{Spot, count_below, locate};
+pub use spot::{count_below, locate};

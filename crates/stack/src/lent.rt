@@ -5,6 +5,7 @@ ghost use Rattle.std.specs.Prelude.{◌≤◌, length};
 #[derive(Clone, Copy, PartialEq, Eq, Debug)]
 pub struct Full;
 
+// A depth beside the slots, since the memory is lent and no stack may take its own. No model: clauses name the slots that were lent.
 #[derive(Drop)]
 pub struct Stack<'a, T> {
     pub(super) slots: &'a mut [T],

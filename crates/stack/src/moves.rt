@@ -1,6 +1,7 @@
-// What a stack can do. Slots beyond the entries are left with anything.
+// What a stack can do. A push leaves the slots beyond the entries as they were; a pop leaves its entry behind in its slot. Each move says
+// that the slots are the lender's still (`SameSlots`): a field that is lent could be given others.
 ghost use Rattle.std.specs.Prelude.{◌≡◌, [], ◌∷◌, ◌++◌, length, MatchOption, MatchResult};
-ghost use Rattle.stack.specs.Held.{held, room, SameSlots};
+ghost use Rattle.stack.specs.Held.{held, room, SameSlots, SameBeyond};
 
 use super::lent::{Full, Stack};
 
@@ -24,6 +25,7 @@ impl<'a, T: Copy> Stack<'a, T> {
     pub fn push(&mut self, entry: T) -> Result<(), Full>
         ensures cases { MatchResult result (λ _. held self.new ≡ held self.old ++ entry ∷ []) (λ _. (length (held self.old) ≡ room self.old) × (self.new ≡ self.old)) }
         ensures slots { SameSlots self.old self.new }
+        ensures beyond { SameBeyond self.old self.new }
     {
         if self.depth == self.slots.len() {
             return Err(Full);

@@ -1,3 +1,4 @@
 pub mod Digits
 pub mod Splits
 pub mod Rows
+pub mod Mapped

@@ -1,10 +1,10 @@
 -- Words that are read one by one, and words that are written behind spaces read back.
-use Rattle.std.proofs.Common.{◌≡◌, ℕ, suc, ◌^◌, ◌<◌, ◌≤◌, false, List, [], ◌∷◌, ◌++◌, map, get_or, Some, None, Option, sym, refl, ap, ◌∙◌, append-nil, arith, rules}
-use Rattle.std.specs.List.{flat_map}
+use Rattle.std.proofs.Common.{◌≡◌, ℕ, suc, ◌^◌, ◌<◌, ◌≤◌, false, List, [], ◌∷◌, ◌++◌, map, get_or, is_some, ◌&&◌, Some, None, Option, sym, refl, ap, ◌∙◌, append-nil, arith, rules}
+use Rattle.std.specs.List.{flat_map, list_all}
 use Rattle.std.proofs.lemmas.Bool.{or_from, ne_eqb}
 use Rattle.terminal.specs.Fields.{is_space, any_space, whole, fields_after}
 use Rattle.terminal.specs.Lists.{before, words_in, spaced, ReadsBack}
-use Rattle.terminal.specs.Numbers.{hex_digit, hex_digits}
+use Rattle.terminal.specs.Numbers.{word_in, hex_digit, hex_digits}
 use Rattle.terminal.proofs.Digits.{nibbles, word_in_hex_digits}
 use Rattle.terminal.proofs.Splits.{run_all}
 
@@ -12,6 +12,16 @@ use Rattle.terminal.proofs.Splits.{run_all}
 abbrev pub behind : List ℕ → Option (List ℕ) → Option (List ℕ)
 behind words (Some more) = Some (words ++ more)
 behind words None = None
+
+-- all the fields are words exactly where each is one
+pub all_words_in : (fields : List (List ℕ)) → list_all (λ field. is_some (word_in field)) fields ≡ is_some (words_in fields)
+all_words_in [] = refl
+all_words_in (field ∷ fields) = rw (all_words_in fields) (by (word_in field) (words_in fields))
+  where
+    by : (word : Option ℕ) (words : Option (List ℕ)) → (is_some word && is_some words) ≡ is_some (before word words)
+    by (Some word) (Some words) = refl
+    by (Some word) None = refl
+    by None words = refl
 
 -- a digit is no space
 is_space-hex_digit : (d : ℕ) → is_space (hex_digit d) ≡ false

@@ -1,5 +1,5 @@
 -- The fields of a line: its longest runs of bytes that are not spaces.
-use Rattle.std.specs.Prelude.{◌≡◌, ℕ, ◌<◌, Bool, false, cond, ◌||◌, List, [], ◌∷◌, ◌++◌, length, drop, ◌==◌}
+use Rattle.std.specs.Prelude.{◌≡◌, ℕ, ◌<◌, Bool, false, cond, ◌||◌, List, [], ◌∷◌, ◌++◌, length, ◌==◌}
 use Rattle.terminal.specs.declared.fields.Fields as reader
 
 -- a space, a tab or a carriage return
@@ -29,4 +29,8 @@ Plain field = (0 < length field) × (any_space field ≡ false)
 
 -- what a reader has still to read of its line
 abbrev pub rest : reader.Fields → List ℕ
-rest f = drop f.at f.line.now
+rest f = f.left.now
+
+-- the fields that a reader has still to give
+abbrev pub fields_left : reader.Fields → List (List ℕ)
+fields_left f = fields (rest f)

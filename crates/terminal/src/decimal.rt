@@ -27,7 +27,8 @@ pub fn write_decimal(out: &mut Vec<u8>, number: u64) -> Result<(), AllocError>
     out.extend_from_slice(&digits[start..MOST_DIGITS])
 }
 
-// Writes the digits to the end of the slice, the last one first, and gives the index of the first.
+// Writes the digits to the end of the slice, the last one first, and gives the index of the first. By hand: the kit's `itoa` would be
+// one library more to trust, and of a `Vec` that std prints to nothing is promised after an error.
 fn fill_digits(digits: &mut [u8], number: u64) -> usize
     requires { length digits.old ≡ 20 }
     ensures within { result ≤ 20 }

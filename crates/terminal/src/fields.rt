@@ -1,68 +1,70 @@
 // Reads a line field by field. A line is bytes, since what comes in may be no text.
-ghost use Rattle.std.specs.Prelude.{◌≡◌, ◌-◌, ◌<◌, ◌≤◌, false, [], ◌∷◌, length, drop, IfSome, MatchOption, slice_index, slice_range};
-ghost use Rattle.terminal.specs.Fields.{is_space, fields, Plain, rest};
+ghost use Rattle.std.specs.Prelude.{◌≡◌, ◌+◌, ◌<◌, ◌≤◌, false, [], ◌∷◌, ◌++◌, length, drop, not, IfSome, MatchOption};
+ghost use Rattle.std.specs.List.{prefix_len};
+ghost use Rattle.std.specs.Iterator.{YieldsFirstRef, item_count};
+ghost use Rattle.terminal.specs.Fields.{is_space, any_space, whole, fields, Plain, rest, fields_left};
 
+// What is left of a line: an iterator over its fields.
 #[derive(Clone, Copy)]
 pub struct Fields<'a> {
-    line: &'a [u8],
-    at: usize,
+    left: &'a [u8],
 }
 
 impl<'a> Fields<'a> {
     pub fn new(line: &'a [u8]) -> Fields<'a>
         ensures { rest result ≡ line.now }
     {
-        Fields { line, at: 0 }
+        Fields { left: line }
     }
+}
+
+impl<'a> Iterator for Fields<'a> {
+    type Item = &'a [u8];
+
+    ghost next_gives = { YieldsFirstRef fields_left };
+
+    ghost remaining = { item_count fields_left };
 
     // The next field, or None where only spaces are left.
-    pub fn next_field(&mut self) -> Option<&'a [u8]>
-        ensures cases { MatchOption result (fields (rest self.old) ≡ []) (λ field. fields (rest self.old) ≡ field.now ∷ fields (rest self.new)) }
-        ensures left { MatchOption result (fields (rest self.new) ≡ []) (λ _. length (rest self.new) < length (rest self.old)) }
+    fn next(&mut self) -> Option<&'a [u8]>
+        ensures cases { MatchOption result (fields_left self.old ≡ []) (λ field. fields_left self.old ≡ field.now ∷ fields_left self.new) }
+        ensures left { MatchOption result (fields_left self.new ≡ []) (λ _. length (rest self.new) < length (rest self.old)) }
         ensures plain { IfSome result (λ field. Plain field.now) }
     {
-        let line = self.line;
-        let start = skip_spaces(line, self.at);
-        if start >= line.len() {
-            self.at = start;
-            return None;
-        }
-        let end = field_end(line, start);
-        self.at = end;
-        Some(&line[start..end])
+        let (field, left) = split_field(self.left);
+        self.left = left;
+        if field.is_empty() { None } else { Some(field) }
     }
 }
 
 fn is_space(byte: u8) -> bool
     ensures { result ≡ is_space byte }
 {
-    byte == b' ' || byte == b'\t' || byte == b'\r'
+    matches!(byte, b' ' | b'\t' | b'\r')
 }
 
-// The index of the first byte from here on that is not a space.
-fn skip_spaces(line: &[u8], from: usize) -> usize
-    ensures onward { from ≤ result }
-    ensures same { fields (drop result line.now) ≡ fields (drop from line.now) }
-    ensures stops { result < length line.now → is_space (slice_index line.now result) ≡ false }
+// The first field and what follows it. An empty field says that none is left: no Option, which its one caller would have to take apart
+// while it keeps what follows either way.
+fn split_field(line: &[u8]) -> (&[u8], &[u8])
+    ensures first { fields line.now ≡ whole result.0.now ++ fields result.1.now }
+    ensures plain { any_space result.0.now ≡ false }
+    ensures within { length result.0.now + length result.1.now ≤ length line.now }
+    ensures none { length result.0.now ≡ 0 → result.1.now ≡ [] }
 {
-    let mut at = from;
-    while at < line.len() && is_space(line[at]) {
-        at += 1;
-    }
-    at
+    let (_, text) = line.split_at(space_len(line));
+    text.split_at(field_len(text))
 }
 
-// The index behind the field that begins at `start`.
-fn field_end(line: &[u8], start: usize) -> usize
-    requires inside { start < length line.now }
-    requires begins { is_space (slice_index line.now start) ≡ false }
-    ensures onward { start < result }
-    ensures within { result ≤ length line.now }
-    ensures field { fields (drop start line.now) ≡ slice_range line.now start result ∷ fields (drop result line.now) }
+// How many spaces stand before all else.
+fn space_len(line: &[u8]) -> usize
+    ensures { result ≡ prefix_len is_space line.now }
 {
-    let mut end = start + 1;
-    while end < line.len() && !is_space(line[end]) {
-        end += 1;
-    }
-    end
+    line.iter().take_while(|byte| is_space(**byte)).count()
+}
+
+// How many bytes stand before the first space.
+fn field_len(text: &[u8]) -> usize
+    ensures { result ≡ prefix_len (λ byte. not (is_space byte)) text.now }
+{
+    text.iter().take_while(|byte| !is_space(**byte)).count()
 }

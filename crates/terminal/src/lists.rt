@@ -1,7 +1,7 @@
 // Lists of words as fields of a line.
 ghost use Rattle.std.specs.Prelude.{◌≡◌, [], ◌∷◌, is_some, Some, MatchResult, OnOk};
 ghost use Rattle.terminal.specs.declared.lists.FieldFault.TheVariants.{Memory};
-ghost use Rattle.terminal.specs.Fields.{fields as fields_of, rest};
+ghost use Rattle.terminal.specs.Fields.{fields_left};
 ghost use Rattle.terminal.specs.Lists.{words_in, Unread, spaced, ReadsBack};
 ghost use Rattle.terminal.specs.Numbers.{Appends, hex_digits};
 
@@ -27,33 +27,26 @@ impl<T: Drop> From<AllocFailed<T>> for FieldFault {
 // Reads all the fields that are left. That each is a word is checked before memory is taken, so that a field that is
 // none is always told.
 pub fn parse_words(heap: Global, fields: &mut Fields<'_>) -> Result<Vec<u32>, FieldFault>
-    ensures cases { MatchResult result (λ words. words_in (fields_of (rest fields.old)) ≡ Some words.items) (Unread (fields_of (rest fields.old))) }
-    ensures all { OnOk result (fields_of (rest fields.new) ≡ []) }
+    ensures cases { MatchResult result (λ words. words_in (fields_left fields.old) ≡ Some words.items) (Unread (fields_left fields.old)) }
+    ensures all { OnOk result (fields_left fields.new ≡ []) }
 {
     if !all_words(*fields) {
         return Err(FieldFault::NotWord);
     }
     let mut words = Vec::new(heap);
-    while let Some(field) = fields.next_field() {
-        let Some(word) = parse_word(field) else {
-            unreachable()
-        };
+    // No `for`: of a lent reader that one goes over, the proof does not learn what it left.
+    while let Some(field) = fields.next() {
+        let word = parse_word(field).unwrap();
         words.push(word)?;
     }
     Ok(words)
 }
 
 // Whether each field that is left is a word.
-fn all_words(fields: Fields<'_>) -> bool
-    ensures { result ≡ is_some (words_in (fields_of (rest fields.entry))) }
+fn all_words(mut fields: Fields<'_>) -> bool
+    ensures { result ≡ is_some (words_in (fields_left fields.entry)) }
 {
-    let mut left = fields;
-    while let Some(field) = left.next_field() {
-        if parse_word(field).is_none() {
-            return false;
-        }
-    }
-    true
+    fields.all(|field| parse_word(field).is_some())
 }
 
 // Writes each word behind a space. Without memory, leaves `out` as it was.
@@ -62,6 +55,7 @@ pub fn write_words(out: &mut Vec<u8>, words: &[u32]) -> Result<(), AllocError>
     ensures back { ReadsBack words.now }
 {
     let start = out.len();
+    // No `try_for_each`: of a closure that writes to `out`, the proof does not learn what it wrote.
     for word in words {
         if let Err(fault) = write_spaced(out, *word) {
             out.truncate(start);

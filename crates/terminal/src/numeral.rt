@@ -2,6 +2,8 @@
 ghost use Rattle.std.specs.Prelude.{◌≡◌, ◌≤◌};
 ghost use Rattle.terminal.specs.Numbers.{numeral_in};
 
+// `u32::from_str_radix` reads another language: it takes a plus before the digits.
+#[tactic(auto, using(crate::proofs::Digits::numeral_large))]
 pub(super) fn parse_numeral(field: &[u8], base: u32) -> Option<u32>
     requires low { 2 ≤ base }
     requires high { base ≤ 36 }

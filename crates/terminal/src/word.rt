@@ -8,6 +8,7 @@ use std::alloc::AllocError;
 const WORD_DIGITS: usize = 8;
 
 // Takes digits of either case.
+#[tactic(auto, using(crate::proofs::Digits::word_fits))]
 pub fn parse_word(field: &[u8]) -> Option<u32>
     ensures { result ≡ word_in field.now }
 {
@@ -18,6 +19,7 @@ pub fn parse_word(field: &[u8]) -> Option<u32>
 }
 
 // Writes upper case. Without memory, leaves `out` as it was.
+#[tactic(auto, using(crate::proofs::Digits::word_in_hex_digits))]
 pub fn write_word(out: &mut Vec<u8>, word: u32) -> Result<(), AllocError>
     ensures after { Appends result out.old.items (hex_digits word) out.new.items }
     ensures back { word_in (hex_digits word) ≡ Some word }
@@ -25,28 +27,16 @@ pub fn write_word(out: &mut Vec<u8>, word: u32) -> Result<(), AllocError>
     out.extend_from_slice(&hex_digits(word))
 }
 
+// The shift wraps, so that the closure may be called at any place.
 pub(super) fn hex_digits(word: u32) -> [u8; WORD_DIGITS]
     ensures { result ≡ hex_digits word }
 {
-    [
-        hex_digit(word >> 28),
-        hex_digit((word >> 24) % 16),
-        hex_digit((word >> 20) % 16),
-        hex_digit((word >> 16) % 16),
-        hex_digit((word >> 12) % 16),
-        hex_digit((word >> 8) % 16),
-        hex_digit((word >> 4) % 16),
-        hex_digit(word % 16),
-    ]
+    [28u32, 24, 20, 16, 12, 8, 4, 0].map(|place| hex_digit(word.wrapping_shr(place) % 16))
 }
 
 fn hex_digit(digit: u32) -> u8
     requires { digit < 16 }
     ensures { result ≡ hex_digit digit }
 {
-    if digit < 10 {
-        b'0' + digit as u8
-    } else {
-        b'A' + (digit - 10) as u8
-    }
+    b"0123456789ABCDEF"[digit as usize]
 }

@@ -1,5 +1,6 @@
 -- The first refusal that applies, check by check.
 use Rattle.std.proofs.Common.{◌≡◌, ℕ, ◌^◌, ◌<◌, Bool, true, false, eqb, ltb, List, [], ◌∷◌, ◌++◌, Some, None, Option, Result, refl, ap, ◌∙◌, subst, arith}
+use Rattle.std.specs.List.{AllByRecursion as All}
 use Rattle.words.specs.declared.refusal.Refusal.{Refusal}
 use Rattle.std.proofs.lemmas.Bool.{or_parts, or_from, eqb-false, ne_eqb, ltb-false, le-ltb}
 use Rattle.words.specs.Refusals.{Says, first_of, refuse_if, bad_serial, serial_refusal}
@@ -36,6 +37,15 @@ serial_passes x i l m = unrefused _ _ (or_from (eqb x 0) (ltb 268435455 x) (ne_e
 pub all_pass : (o : Option Refusal) (later : List (Option Refusal)) → first_of (o ∷ later) ≡ None → (o ≡ None) × (first_of later ≡ None)
 all_pass None later e = (refl, e)
 all_pass (Some r) later e = let z : ◌≡◌ {A = ℕ} 0 1 = cc in absurd (omega arith)
+
+-- where nothing is refused, each check passes, and the other way round
+pub each_passes : (checks : List (Option Refusal)) → first_of checks ≡ None → All (λ o. o ≡ None) checks
+each_passes [] e = tt
+each_passes (o ∷ later) e = let p = all_pass o later e in (p.0, each_passes later p.1)
+
+pub all_passed : (checks : List (Option Refusal)) → All (λ o. o ≡ None) checks → first_of checks ≡ None
+all_passed [] h = refl
+all_passed (o ∷ later) h = passes o later None h.0 (all_passed later h.1)
 
 pub last_check : (o r : Option Refusal) → o ≡ r → first_of (o ∷ []) ≡ r
 last_check None r e = e

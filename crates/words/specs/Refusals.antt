@@ -1,5 +1,5 @@
 -- The number, the index and the part of every refusal, and when a list or a serial is refused.
-use Rattle.std.specs.Prelude.{◌≡◌, ℕ, Bool, cond, ◌||◌, List, [], ◌∷◌, Some, None, Ok, Err, Option, Result, ◌==◌, nat_lt}
+use Rattle.std.specs.Prelude.{◌≡◌, ℕ, Bool, cond, ◌||◌, List, [], ◌∷◌, Some, None, Ok, Err, Option, Result, ◌==◌, nat_lt, ◌++◌, codes, decimal}
 use Rattle.words.specs.declared.refusal.Part.{Part}
 use Rattle.words.specs.declared.refusal.Part.TheVariants as part
 use Rattle.words.specs.declared.refusal.Refusal.{Refusal}
@@ -24,6 +24,22 @@ use Rattle.words.specs.declared.refusal.NamesFault.TheVariants as names
 
 abbrev pub refusal : ℕ → ℕ → Part → Refusal
 refusal n i p = record { number = n; index = i; part = p }
+
+abbrev pub part_name : Part → List ℕ
+part_name part.Lists = codes "lists"
+part_name part.Serial = codes "serial"
+part_name part.Kind = codes "kind"
+part_name part.Line = codes "line"
+part_name part.Closing = codes "closing"
+part_name part.Question = codes "question"
+part_name part.Image = codes "image"
+part_name part.Answer = codes "answer"
+part_name part.Code = codes "code"
+
+-- refused NUMBER at INDEX by PART
+abbrev pub refusal_text : Refusal → List ℕ
+refusal_text told =
+    codes "refused " ++ decimal told.number ++ codes " at " ++ decimal told.index ++ codes " by " ++ part_name told.part
 
 -- the table of refusals: the number, the index and the part of every fault
 

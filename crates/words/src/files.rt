@@ -34,14 +34,13 @@ pub fn encode(heap: Global, words: &[u32]) -> Result<Vec<u8>, AllocError>
 pub fn decode(heap: Global, bytes: &[u8]) -> Result<Vec<u32>, DecodeFault>
     ensures { MatchResult result (λ words. Decodes bytes.now words.items) (Undecoded bytes.now) }
 {
-    if bytes.len() % 4 != 0 {
+    let (chunks, rest) = bytes.as_chunks::<4>();
+    if !rest.is_empty() {
         return Err(DecodeFault::PartialWord);
     }
     let mut words = Vec::new(heap);
-    let mut left = bytes;
-    while let [a, b, c, d, rest @ ..] = left {
-        words.push(u32::from_be_bytes([*a, *b, *c, *d]))?;
-        left = rest;
+    for chunk in chunks {
+        words.push(u32::from_be_bytes(*chunk))?;
     }
     Ok(words)
 }

@@ -12,6 +12,4 @@ pub use refusal::{
     Part, QuestionFault, Refusal, SerialFault, need,
 };
 pub use serial::{MAX_SERIAL, check_serial};
-pub use word::{
-    LowBits, StackEffect, WordKind, WordRule, is_kind, kind_number, low_bits, make_word, rule,
-};
+pub use word::{LowBits, StackEffect, WordKind, WordRule, is_kind, low_bits, make_word, rule};

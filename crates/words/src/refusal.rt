@@ -1,5 +1,5 @@
 // How a call is refused: a number, the index of the word concerned, and the part that found the fault.
-ghost use Rattle.std.specs.Prelude.{◌≡◌, ℕ, ◌<◌};
+ghost use Rattle.std.specs.Prelude.{◌≡◌, Some};
 ghost use Rattle.words.specs.declared.refusal.Refusal.{Refusal};
 ghost use Rattle.words.specs.declared.refusal.CatalogueFault.TheVariants as catalogue;
 ghost use Rattle.words.specs.declared.refusal.ImageFault.TheVariants as image;
@@ -7,7 +7,9 @@ ghost use Rattle.words.specs.declared.refusal.AnswerFault.TheVariants as answer;
 ghost use Rattle.words.specs.declared.refusal.ClosingFault.TheVariants as closing;
 ghost use Rattle.words.specs.declared.refusal.QuestionFault.TheVariants as question;
 ghost use Rattle.words.specs.declared.refusal.NamesFault.TheVariants as names;
-ghost use Rattle.words.specs.Refusals.{Says, list_told, serial_told, catalogue_told, image_told, answer_told, closing_told, question_told, code_told, list_refusal, image_of_names, answer_of_names};
+ghost use Rattle.words.specs.Refusals.{Says, refusal, part_name, refusal_text, list_told, serial_told, catalogue_told, image_told, answer_told, closing_told, question_told, code_told, list_refusal, image_of_names, answer_of_names};
+
+use std::fmt;
 
 // The part of the finder that checks a rule.
 #[derive(Clone, Copy, PartialEq, Eq, Debug)]
@@ -23,6 +25,33 @@ pub enum Part {
     Code,
 }
 
+impl Part {
+    pub fn name(self) -> &'static str
+        ensures { result.now ≡ part_name self }
+    {
+        match self {
+            Part::Lists => "lists",
+            Part::Serial => "serial",
+            Part::Kind => "kind",
+            Part::Line => "line",
+            Part::Closing => "closing",
+            Part::Question => "question",
+            Part::Image => "image",
+            Part::Answer => "answer",
+            Part::Code => "code",
+        }
+    }
+}
+
+impl fmt::Display for Part {
+    ghost output = { λ part. Some (part_name part) };
+
+    fn fmt<W: fmt::Write>(&self, f: &mut fmt::Formatter<W>) -> fmt::Result {
+        f.write_str(self.name())
+    }
+}
+
+// What the outside is told: the number stands in the protocol, so it is no enum.
 #[derive(Clone, Copy, PartialEq, Eq, Debug)]
 pub struct Refusal {
     pub number: u8,
@@ -30,7 +59,32 @@ pub struct Refusal {
     pub part: Part,
 }
 
-// What every fault can tell.
+impl Refusal {
+    fn new(number: u8, index: usize, part: Part) -> Refusal
+        ensures { result ≡ refusal number index part }
+    {
+        Refusal {
+            number,
+            index,
+            part,
+        }
+    }
+}
+
+impl fmt::Display for Refusal {
+    ghost output = { λ told. Some (refusal_text told) };
+
+    fn fmt<W: fmt::Write>(&self, f: &mut fmt::Formatter<W>) -> fmt::Result {
+        let Refusal {
+            number,
+            index,
+            part,
+        } = self;
+        write!(f, "refused {number} at {index} by {part}")
+    }
+}
+
+// What every fault can tell. A trait and not From, since callers of any fault need the refusal as a function of it.
 pub trait Fault {
     ghost told: { Self → Refusal };
 
@@ -39,19 +93,19 @@ pub trait Fault {
 }
 
 // A list handed in is shorter than the call needs.
-#[derive(Clone, Copy)]
+#[derive(Clone, Copy, PartialEq, Eq, Debug)]
 pub enum ListFault {
     Short,
 }
 
 // A serial is 0 or too large; with the index of its word.
-#[derive(Clone, Copy)]
+#[derive(Clone, Copy, PartialEq, Eq, Debug)]
 pub enum SerialFault {
     Range(usize),
 }
 
 // Where a fault can be met at several words, it has the word's index.
-#[derive(Clone, Copy)]
+#[derive(Clone, Copy, PartialEq, Eq, Debug)]
 pub enum CatalogueFault {
     Serial(SerialFault),
     KindStands,
@@ -64,7 +118,7 @@ pub enum CatalogueFault {
     LineMissing,
 }
 
-#[derive(Clone, Copy)]
+#[derive(Clone, Copy, PartialEq, Eq, Debug)]
 pub enum ImageFault {
     List(ListFault),
     Catalogue(CatalogueFault),
@@ -72,7 +126,7 @@ pub enum ImageFault {
     NotDue(usize),
 }
 
-#[derive(Clone, Copy)]
+#[derive(Clone, Copy, PartialEq, Eq, Debug)]
 pub enum AnswerFault {
     List(ListFault),
     Serial(SerialFault),
@@ -80,13 +134,13 @@ pub enum AnswerFault {
 }
 
 // A line of kinds leads back to where it began.
-#[derive(Clone, Copy)]
+#[derive(Clone, Copy, PartialEq, Eq, Debug)]
 pub enum ClosingFault {
     List(ListFault),
     Ring,
 }
 
-#[derive(Clone, Copy)]
+#[derive(Clone, Copy, PartialEq, Eq, Debug)]
 pub enum QuestionFault {
     List(ListFault),
     Catalogue(CatalogueFault),
@@ -99,13 +153,13 @@ pub enum QuestionFault {
 }
 
 // A place past the end of a code.
-#[derive(Clone, Copy)]
+#[derive(Clone, Copy, PartialEq, Eq, Debug)]
 pub enum CodeFault {
     PastWidth,
 }
 
 // In a run of names: a bad serial, or not the name that is due.
-#[derive(Clone, Copy)]
+#[derive(Clone, Copy, PartialEq, Eq, Debug)]
 pub enum NamesFault {
     Serial(SerialFault),
     NotDue(usize),
@@ -115,11 +169,7 @@ impl Fault for ListFault {
     ghost told = { list_told };
 
     fn refusal(&self) -> Refusal {
-        Refusal {
-            number: 1,
-            index: 0,
-            part: Part::Lists,
-        }
+        Refusal::new(1, 0, Part::Lists)
     }
 }
 
@@ -128,11 +178,7 @@ impl Fault for SerialFault {
 
     fn refusal(&self) -> Refusal {
         match *self {
-            SerialFault::Range(index) => Refusal {
-                number: 2,
-                index,
-                part: Part::Serial,
-            },
+            SerialFault::Range(index) => Refusal::new(2, index, Part::Serial),
         }
     }
 }
@@ -143,46 +189,14 @@ impl Fault for CatalogueFault {
     fn refusal(&self) -> Refusal {
         match *self {
             CatalogueFault::Serial(fault) => fault.refusal(),
-            CatalogueFault::KindStands => Refusal {
-                number: 3,
-                index: 0,
-                part: Part::Kind,
-            },
-            CatalogueFault::Full => Refusal {
-                number: 4,
-                index: 0,
-                part: Part::Kind,
-            },
-            CatalogueFault::KindMissing(index) => Refusal {
-                number: 5,
-                index,
-                part: Part::Kind,
-            },
-            CatalogueFault::KindHasLine => Refusal {
-                number: 6,
-                index: 0,
-                part: Part::Kind,
-            },
-            CatalogueFault::OwnParent(index) => Refusal {
-                number: 7,
-                index,
-                part: Part::Line,
-            },
-            CatalogueFault::LineStands => Refusal {
-                number: 8,
-                index: 0,
-                part: Part::Line,
-            },
-            CatalogueFault::LinesFull(index) => Refusal {
-                number: 9,
-                index,
-                part: Part::Line,
-            },
-            CatalogueFault::LineMissing => Refusal {
-                number: 10,
-                index: 0,
-                part: Part::Line,
-            },
+            CatalogueFault::KindStands => Refusal::new(3, 0, Part::Kind),
+            CatalogueFault::Full => Refusal::new(4, 0, Part::Kind),
+            CatalogueFault::KindMissing(index) => Refusal::new(5, index, Part::Kind),
+            CatalogueFault::KindHasLine => Refusal::new(6, 0, Part::Kind),
+            CatalogueFault::OwnParent(index) => Refusal::new(7, index, Part::Line),
+            CatalogueFault::LineStands => Refusal::new(8, 0, Part::Line),
+            CatalogueFault::LinesFull(index) => Refusal::new(9, index, Part::Line),
+            CatalogueFault::LineMissing => Refusal::new(10, 0, Part::Line),
         }
     }
 }
@@ -194,16 +208,8 @@ impl Fault for ImageFault {
         match *self {
             ImageFault::List(fault) => fault.refusal(),
             ImageFault::Catalogue(fault) => fault.refusal(),
-            ImageFault::NotEmpty => Refusal {
-                number: 18,
-                index: 0,
-                part: Part::Image,
-            },
-            ImageFault::NotDue(index) => Refusal {
-                number: 19,
-                index,
-                part: Part::Image,
-            },
+            ImageFault::NotEmpty => Refusal::new(18, 0, Part::Image),
+            ImageFault::NotDue(index) => Refusal::new(19, index, Part::Image),
         }
     }
 }
@@ -215,11 +221,7 @@ impl Fault for AnswerFault {
         match *self {
             AnswerFault::List(fault) => fault.refusal(),
             AnswerFault::Serial(fault) => fault.refusal(),
-            AnswerFault::NotAnswer(index) => Refusal {
-                number: 20,
-                index,
-                part: Part::Answer,
-            },
+            AnswerFault::NotAnswer(index) => Refusal::new(20, index, Part::Answer),
         }
     }
 }
@@ -230,11 +232,7 @@ impl Fault for ClosingFault {
     fn refusal(&self) -> Refusal {
         match *self {
             ClosingFault::List(fault) => fault.refusal(),
-            ClosingFault::Ring => Refusal {
-                number: 11,
-                index: 0,
-                part: Part::Closing,
-            },
+            ClosingFault::Ring => Refusal::new(11, 0, Part::Closing),
         }
     }
 }
@@ -246,36 +244,12 @@ impl Fault for QuestionFault {
         match *self {
             QuestionFault::List(fault) => fault.refusal(),
             QuestionFault::Catalogue(fault) => fault.refusal(),
-            QuestionFault::Open => Refusal {
-                number: 12,
-                index: 0,
-                part: Part::Question,
-            },
-            QuestionFault::WordCount => Refusal {
-                number: 13,
-                index: 0,
-                part: Part::Question,
-            },
-            QuestionFault::NotQuestionWord(index) => Refusal {
-                number: 14,
-                index,
-                part: Part::Question,
-            },
-            QuestionFault::TooDeep(index) => Refusal {
-                number: 15,
-                index,
-                part: Part::Question,
-            },
-            QuestionFault::TooFew(index) => Refusal {
-                number: 16,
-                index,
-                part: Part::Question,
-            },
-            QuestionFault::NotOneLeft => Refusal {
-                number: 17,
-                index: 0,
-                part: Part::Question,
-            },
+            QuestionFault::Open => Refusal::new(12, 0, Part::Question),
+            QuestionFault::WordCount => Refusal::new(13, 0, Part::Question),
+            QuestionFault::NotQuestionWord(index) => Refusal::new(14, index, Part::Question),
+            QuestionFault::TooDeep(index) => Refusal::new(15, index, Part::Question),
+            QuestionFault::TooFew(index) => Refusal::new(16, index, Part::Question),
+            QuestionFault::NotOneLeft => Refusal::new(17, 0, Part::Question),
         }
     }
 }
@@ -284,14 +258,11 @@ impl Fault for CodeFault {
     ghost told = { code_told };
 
     fn refusal(&self) -> Refusal {
-        Refusal {
-            number: 21,
-            index: 0,
-            part: Part::Code,
-        }
+        Refusal::new(21, 0, Part::Code)
     }
 }
 
+// Written out, as each has to say which variant `?` makes.
 impl From<SerialFault> for CatalogueFault {
     ghost from_gives = { λ x y. y ≡ catalogue.Serial x };
 

@@ -2,25 +2,34 @@
 ghost use Rattle.std.specs.Prelude.{◌≡◌, ℕ, ◌+◌, ◌*◌, ◌/◌, ◌%◌, ◌^◌, ◌<◌};
 ghost use Rattle.words.specs.Words.{kind_number, low_bits, number_of, is_kind, word_of, rule_of};
 
-#[derive(Clone, Copy, PartialEq, Eq)]
+// A kind's number stands in the top four bits; the numbers 12 to 14 are unused as well.
+#[derive(Clone, Copy, PartialEq, Eq, Debug)]
 pub enum WordKind {
-    Unused,
-    Name,
-    And,
-    Or,
-    Not,
-    All,
-    Nothing,
-    AnswerHead,
-    ImageHead,
-    Child,
-    Parent,
-    RingHead,
-    ImageEnd,
+    Unused = 0,
+    Name = 1,
+    And = 2,
+    Or = 3,
+    Not = 4,
+    All = 5,
+    Nothing = 6,
+    AnswerHead = 7,
+    ImageHead = 8,
+    Child = 9,
+    Parent = 10,
+    RingHead = 11,
+    ImageEnd = 15,
+}
+
+impl From<WordKind> for u32 {
+    ghost from_gives = { λ kind number. number ≡ number_of kind };
+
+    fn from(kind: WordKind) -> u32 {
+        kind as u32
+    }
 }
 
 // What the low bits of a word have to be.
-#[derive(Clone, Copy, PartialEq, Eq)]
+#[derive(Clone, Copy, PartialEq, Eq, Debug)]
 pub enum LowBits {
     Serial,
     Zero,
@@ -29,13 +38,13 @@ pub enum LowBits {
 }
 
 // How many entries a word of a question takes from the stack, and how many it leaves there.
-#[derive(Clone, Copy)]
+#[derive(Clone, Copy, PartialEq, Eq, Debug)]
 pub struct StackEffect {
     pub takes: usize,
     pub leaves: usize,
 }
 
-#[derive(Clone, Copy)]
+#[derive(Clone, Copy, PartialEq, Eq, Debug)]
 pub struct WordRule {
     pub kind: WordKind,
     pub low: LowBits,
@@ -45,106 +54,47 @@ pub struct WordRule {
 // The number of values of the low bits.
 const LOW_RANGE: u32 = 0x1000_0000;
 
+// What operands and operators do to the stack.
+const OPERAND: Option<StackEffect> = Some(StackEffect {
+    takes: 0,
+    leaves: 1,
+});
+
+const UNARY: Option<StackEffect> = Some(StackEffect {
+    takes: 1,
+    leaves: 1,
+});
+
+const BINARY: Option<StackEffect> = Some(StackEffect {
+    takes: 2,
+    leaves: 1,
+});
+
+const UNUSED: WordRule = WordRule {
+    kind: WordKind::Unused,
+    low: LowBits::Unused,
+    effect: None,
+};
+
 // One row for each value of the top four bits.
+#[rattlefmt::skip]
 const RULES: [WordRule; 16] = [
-    WordRule {
-        kind: WordKind::Unused,
-        low: LowBits::Unused,
-        effect: None,
-    },
-    WordRule {
-        kind: WordKind::Name,
-        low: LowBits::Serial,
-        effect: Some(StackEffect {
-            takes: 0,
-            leaves: 1,
-        }),
-    },
-    WordRule {
-        kind: WordKind::And,
-        low: LowBits::Zero,
-        effect: Some(StackEffect {
-            takes: 2,
-            leaves: 1,
-        }),
-    },
-    WordRule {
-        kind: WordKind::Or,
-        low: LowBits::Zero,
-        effect: Some(StackEffect {
-            takes: 2,
-            leaves: 1,
-        }),
-    },
-    WordRule {
-        kind: WordKind::Not,
-        low: LowBits::Zero,
-        effect: Some(StackEffect {
-            takes: 1,
-            leaves: 1,
-        }),
-    },
-    WordRule {
-        kind: WordKind::All,
-        low: LowBits::Zero,
-        effect: Some(StackEffect {
-            takes: 0,
-            leaves: 1,
-        }),
-    },
-    WordRule {
-        kind: WordKind::Nothing,
-        low: LowBits::Zero,
-        effect: Some(StackEffect {
-            takes: 0,
-            leaves: 1,
-        }),
-    },
-    WordRule {
-        kind: WordKind::AnswerHead,
-        low: LowBits::Count,
-        effect: None,
-    },
-    WordRule {
-        kind: WordKind::ImageHead,
-        low: LowBits::Count,
-        effect: None,
-    },
-    WordRule {
-        kind: WordKind::Child,
-        low: LowBits::Serial,
-        effect: None,
-    },
-    WordRule {
-        kind: WordKind::Parent,
-        low: LowBits::Serial,
-        effect: None,
-    },
-    WordRule {
-        kind: WordKind::RingHead,
-        low: LowBits::Count,
-        effect: None,
-    },
-    WordRule {
-        kind: WordKind::Unused,
-        low: LowBits::Unused,
-        effect: None,
-    },
-    WordRule {
-        kind: WordKind::Unused,
-        low: LowBits::Unused,
-        effect: None,
-    },
-    WordRule {
-        kind: WordKind::Unused,
-        low: LowBits::Unused,
-        effect: None,
-    },
-    WordRule {
-        kind: WordKind::ImageEnd,
-        low: LowBits::Count,
-        effect: None,
-    },
+    UNUSED,
+    WordRule { kind: WordKind::Name, low: LowBits::Serial, effect: OPERAND },
+    WordRule { kind: WordKind::And, low: LowBits::Zero, effect: BINARY },
+    WordRule { kind: WordKind::Or, low: LowBits::Zero, effect: BINARY },
+    WordRule { kind: WordKind::Not, low: LowBits::Zero, effect: UNARY },
+    WordRule { kind: WordKind::All, low: LowBits::Zero, effect: OPERAND },
+    WordRule { kind: WordKind::Nothing, low: LowBits::Zero, effect: OPERAND },
+    WordRule { kind: WordKind::AnswerHead, low: LowBits::Count, effect: None },
+    WordRule { kind: WordKind::ImageHead, low: LowBits::Count, effect: None },
+    WordRule { kind: WordKind::Child, low: LowBits::Serial, effect: None },
+    WordRule { kind: WordKind::Parent, low: LowBits::Serial, effect: None },
+    WordRule { kind: WordKind::RingHead, low: LowBits::Count, effect: None },
+    UNUSED,
+    UNUSED,
+    UNUSED,
+    WordRule { kind: WordKind::ImageEnd, low: LowBits::Count, effect: None },
 ];
 
 // The row of the word's kind.
@@ -160,36 +110,15 @@ pub fn low_bits(word: u32) -> u32
     word % LOW_RANGE
 }
 
-// The top four bits of a word of this kind.
-pub fn kind_number(kind: WordKind) -> u32
-    ensures { result ≡ number_of kind }
-{
-    match kind {
-        WordKind::Unused => 0,
-        WordKind::Name => 1,
-        WordKind::And => 2,
-        WordKind::Or => 3,
-        WordKind::Not => 4,
-        WordKind::All => 5,
-        WordKind::Nothing => 6,
-        WordKind::AnswerHead => 7,
-        WordKind::ImageHead => 8,
-        WordKind::Child => 9,
-        WordKind::Parent => 10,
-        WordKind::RingHead => 11,
-        WordKind::ImageEnd => 15,
-    }
-}
-
 pub fn is_kind(word: u32, kind: WordKind) -> bool
     ensures { result ≡ is_kind kind word }
 {
-    word >> 28 == kind_number(kind)
+    word >> 28 == u32::from(kind)
 }
 
 // The word of this kind with these low bits; bits above the low 28 are left out.
 pub fn make_word(kind: WordKind, low: u32) -> u32
     ensures { result ≡ word_of kind (low_bits low) }
 {
-    kind_number(kind) * LOW_RANGE + low % LOW_RANGE
+    u32::from(kind) * LOW_RANGE + low % LOW_RANGE
 }

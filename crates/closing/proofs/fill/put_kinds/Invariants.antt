@@ -1,4 +1,4 @@
-use Rattle.std.proofs.Common.{◌≡◌, ◌||◌, take, drop}
+use Rattle.std.proofs.Common.{◌||◌, take}
 use Rattle.closing.specs.Tables.{sets_of, cell, Cells}
 use Rattle.descent.specs.Lines.{places_of}
 use Rattle.closing.specs.Direct.{own}
@@ -7,5 +7,4 @@ use Rattle.closing.proofs.fill.put_kinds.Given as goal
 abbrev pub invariant-loop-kind : goal.invariant-loop-kind
 invariant-loop-kind g l =
     let s = g.C.Truth.sort in
-    Cells l.w (sets_of s l.table) (λ i j. cell (sets_of s l.initial.table) i j || own (take l.kind-index (places_of l.kinds)) i j)
-    × (drop l.w l.table ≡ drop l.w l.initial.table)
+    Cells s.width (sets_of s l.rows) (λ i j. cell (sets_of s l.initial.rows) i j || own (take l.kind-index (places_of l.kinds)) i j)

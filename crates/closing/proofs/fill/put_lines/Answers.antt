@@ -1,7 +1,8 @@
-use Rattle.std.proofs.Common.{◌&&◌, ◌||◌, eqb, get_or, take, sym, ap, ◌∙◌, arith}
+use Rattle.std.proofs.Math.Bool.{or_assoc}
+use Rattle.std.proofs.Common.{ℕ, Bool, ◌&&◌, ◌||◌, eqb, take, sym, ap, ◌∙◌, arith}
 use Rattle.closing.specs.Tables.{sets_of, cell}
 use Rattle.closing.specs.Direct.{place_of, linked}
-use Rattle.closing.proofs.Direct.{linked_more, or_assoc, line_ends, place-below}
+use Rattle.closing.proofs.Direct.{line_at, linked_more, line_ends, place-below}
 use Rattle.closing.proofs.fill.put_lines.Goals as goal
 
 pub place_of-requires : goal.place_of-requires
@@ -14,26 +15,22 @@ pub put-requires : goal.put-requires
 put-requires g c =
     let st = c.args.standing.now in
     let ends = line_ends st c.loop-line.line-index c.loop-line-test.true in
-    let l = get_or st.lines.now c.loop-line.line-index (record { child = 0; parent = 0 }) in
+    let l = line_at st.lines.now c.loop-line.line-index in
     let up = place-below st l.parent ends.1 in
     let low = place-below st l.child ends.0 in
-    (omega arith, omega arith)
+    record { row = omega arith; place = omega arith }
 
 pub loop-line-preserved : goal.loop-line-preserved
 loop-line-preserved g c =
-    let s = g.C.Truth.sort in
     let st = c.args.standing.now in
     let kinds = st.kinds.now in
     let lines = st.lines.now in
-    let old = sets_of s c.args.table.now in
+    let old = sets_of g.C.Truth.sort c.args.rows.now in
     let n = c.loop-line.line-index in
-    let l = get_or lines n (record { child = 0; parent = 0 }) in
-    let ends = line_ends st n c.loop-line-test.true in
-    let up = place-below st l.parent ends.1 in (
-      λ i j hi hj.
-          (rw (c.place_of.ensures, c.place_of-in-loop-line.ensures) at (c.put.ensures.cells i j (omega arith) (omega arith)))
-          ∙ ap (λ b. b || (eqb i (place_of kinds l.parent) && eqb j (place_of kinds l.child))) (c.loop-line.invariant.0 i j hi hj)
-          ∙ or_assoc (cell old i j) (linked kinds (take n lines) i j) (eqb i (place_of kinds l.parent) && eqb j (place_of kinds l.child))
-          ∙ ap (λ b. cell old i j || b) (sym (linked_more kinds lines n i j (record { child = 0; parent = 0 }) c.loop-line-test.true)),
-      c.put.ensures.beyond st.width (omega arith) ∙ c.loop-line.invariant.1,
-    )
+    let l = line_at lines n in
+    let here : ℕ → ℕ → Bool = λ i j. eqb i (place_of kinds l.parent) && eqb j (place_of kinds l.child) in
+    λ i j hi hj.
+    (rw (c.place_of.ensures, c.place_of-in-loop-line.ensures) at (c.put.ensures i j hi hj))
+    ∙ ap (λ b. b || here i j) (c.loop-line.invariant i j hi hj)
+    ∙ or_assoc (cell old i j) (linked kinds (take n lines) i j) (here i j)
+    ∙ ap (λ b. cell old i j || b) (sym (linked_more kinds lines n i j (record { child = 0; parent = 0 }) c.loop-line-test.true))

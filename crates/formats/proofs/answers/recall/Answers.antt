@@ -1,68 +1,33 @@
-use Rattle.std.proofs.Common.{◌≡◌, ℕ, suc, ◌+◌, ◌-◌, ◌≤◌, true, List, ◌∷◌, ◌++◌, map, length, take, drop, set, sym, refl, ap, ◌∙◌, ap₂, arith}
-use lib.Seq.{paste}
-use Rattle.std.proofs.lemmas.List.{length-map, take_all, take_rest}
+use Rattle.std.proofs.Common.{◌≡◌, ℕ, ◌-◌, ◌^◌, ◌<◌, List, ◌++◌, map, length, take, drop, sym, refl, ap, ◌∙◌, ap₂, arith}
+use Rattle.std.proofs.lemmas.List.{length-map}
 use Rattle.std.proofs.lemmas.Bool.{ltb-false}
-use Rattle.descent.specs.declared.standing.Standing.{Standing}
-use Rattle.descent.specs.Lines.{serials_of, stands}
-use Rattle.descent.proofs.Proper.{standing_fits}
-use Rattle.descent.specs.Order.{rising_from}
+use Rattle.descent.specs.Lines.{serials_of}
 use Rattle.words.specs.declared.word.WordKind.TheVariants.{Name, AnswerHead}
-use Rattle.words.specs.Words.{low_bits, word_of}
+use Rattle.words.specs.Words.{word_of}
+use Rattle.words.proofs.Parts.{low_same}
+use Rattle.words.proofs.Chain.{not-refused}
 use Rattle.formats.specs.Formats.{serials_in, named_in, still_among}
-use Rattle.formats.proofs.AnswerChecks.{answer_passed}
-use Rattle.words.proofs.Chain.{passes, last_check, not-refused}
-use Rattle.formats.proofs.Keeping.{kept_few, headed}
+use Rattle.formats.proofs.Keeping.{kept_fit_all, head_first}
 use Rattle.formats.proofs.answers.recall.Goals as goal
-
-pub write_standing-count-requires : goal.write_standing-count-requires
-write_standing-count-requires c =
-    let ws = c.args.words.now in
-    let p = answer_passed ws c.in_ok-check_answer.ensures in
-    record {
-      rising = ap (λ (us : List ℕ). rising_from 0 (serials_in us)) (take_rest ws 1) ∙ p.1;
-      room = ltb-false _ _ (not-refused _ _ c.in_ok-need.ensures);
-    }
-
--- no more are kept than there are places
-few : (s : Standing) (ws ns : List ℕ) (n : ℕ) → ns ≡ drop 1 ws → rising_from 0 (serials_in (drop 1 ws)) ≡ true → n ≡ length (still_among (serials_of s.kinds.now) (serials_in ns)) → n ≤ 512
-few s ws ns n e r c =
-    let all = take_all (length ns) ns (omega arith) in
-    let m = kept_few (λ k. stands k (serials_of s.kinds.now)) ns (serials_of s.kinds.now) (length ns) s.rising (ap (λ (us : List ℕ). rising_from 0 (serials_in us)) e ∙ r) (λ _. refl) in
-    let same = ap (λ (us : List ℕ). length (still_among (serials_of s.kinds.now) (serials_in us))) all in
-    omega (arith, s.wide.1, length-map s.kinds.now (λ k. k.serial), standing_fits s)
 
 pub overflow_cast-count : goal.overflow_cast-count
 overflow_cast-count c =
-    let ws = c.args.words.now in
-    let l = few c.args.standing.now ws _ c.write_standing-count.result (take_rest ws 1) (answer_passed ws c.in_ok-check_answer.ensures).1 c.write_standing-count.ensures.count in
-    omega arith
-
-pub overflow_add-result : goal.overflow_add-result
-overflow_add-result c =
-    let ws = c.args.words.now in
-    let l = few c.args.standing.now ws _ c.write_standing-count.result (take_rest ws 1) (answer_passed ws c.in_ok-check_answer.ensures).1 c.write_standing-count.ensures.count in
-    omega arith
-
-pub returns : goal.returns
-returns c =
     let s = c.args.standing.now in
-    let ws = c.args.words.now in
+    let names = c.in_ok-names.names in
+    omega (arith, c.write_standing-count.ensures.count, kept_fit_all s names.words.now names.rising, s.wide.1)
+
+pub returns-clause-list : goal.returns-clause-list
+returns-clause-list c =
+    let s = c.args.standing.now in
+    let names = c.in_ok-names.names in
+    let kept = still_among (serials_of s.kinds.now) (named_in c.args.words.now) in
+    let written = c.write_standing-count.ensures in
+    let is : still_among (serials_of s.kinds.now) (serials_in names.words.now) ≡ kept = rw c.in_ok-names.ensures.names refl in
+    let many : c.write_standing-count.result ≡ length kept = written.count ∙ ap length is in
+    let long = length-map kept (word_of Name) in
+    let few : length kept < 2 ^ 28 = omega (arith, many, written.count, kept_fit_all s names.words.now names.rising, s.wide.1) in
+    let room = ltb-false _ _ (not-refused _ _ c.in_ok-need.ensures) in
     let old = c.args.answer.now in
-    let n = c.write_standing-count.result in
-    let l = few s ws _ n (take_rest ws 1) (answer_passed ws c.in_ok-check_answer.ensures).1 c.write_standing-count.ensures.count in
-    let kept = still_among (serials_of s.kinds.now) (named_in ws) in
-    let is : still_among (serials_of s.kinds.now) (serials_in (take (length ws - 1) (drop 1 ws))) ≡ kept =
-    ap (λ (us : List ℕ). still_among (serials_of s.kinds.now) (serials_in us)) (take_rest ws 1) in
-    let many : n ≡ length kept = c.write_standing-count.ensures.count ∙ ap length is in
-    let long : n ≡ length (map (word_of Name) kept) = many ∙ sym (length-map kept (word_of Name)) in
-    let low : low_bits n ≡ n = omega arith in
-    let fits : 1 ≤ length old = (let w = ltb-false (length old) (s.width + 1) (not-refused _ _ c.in_ok-need.ensures) in omega arith) in
-    record {
-      says = passes _ _ _ c.in_ok-need.ensures (last_check _ _ c.in_ok-check_answer.ensures);
-      list = (
-        omega (arith, long),
-        ap₂ (λ (ys : List ℕ) (y : ℕ). set ys 0 y) (c.write_standing-count.ensures.list ∙ ap (λ (us : List ℕ). paste old 1 (map (word_of Name) us) n) is) (c.make_word.ensures ∙ ap (word_of AnswerHead) (low ∙ many))
-            ∙ headed old (map (word_of Name) kept) n (word_of AnswerHead (length kept)) long fits
-            ∙ ap (λ (k : ℕ). word_of AnswerHead (length kept) ∷ map (word_of Name) kept ++ drop (suc k) old) long,
-      );
-    }
+    let list = written.list ∙ ap₂ (λ (us : List ℕ) (n : ℕ). map (word_of Name) us ++ drop n (take (length old - 1) (drop 1 old))) is (many ∙ sym long) in
+    let head = c.make_word.ensures ∙ ap (word_of AnswerHead) (low_same c.write_standing-count.result (omega arith) ∙ many) in
+    (omega (arith, many, long), rw head (head_first old (map (word_of Name) kept) c.write_standing-count.new.list (word_of AnswerHead (length kept)) (omega (arith, room)) list))

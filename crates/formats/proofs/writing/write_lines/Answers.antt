@@ -1,29 +1,22 @@
-use Rattle.std.proofs.Common.{◌≡◌, ℕ, ◌*◌, ◌<◌, List, [], length, ◌∙◌, ap₂, arith}
-use Rattle.std.specs.List.{flat_map}
-use lib.Seq.{paste}
-use Rattle.std.proofs.lemmas.List.Edits.{paste_none}
-use Rattle.std.proofs.lemmas.List.{take_all}
-use Rattle.descent.specs.declared.line.Line.{Line}
-use Rattle.formats.specs.Formats.{line_words}
-use Rattle.formats.proofs.ImageWriting.{line_written}
+use Rattle.std.proofs.Common.{◌^◌, refl, ◌∙◌, arith}
+use Rattle.descent.specs.Lines.{serials_of}
+use Rattle.descent.proofs.Rows.{children_below, parents_below}
+use Rattle.formats.proofs.WriterLaws.{writes_more, lines_more, lines_count}
 use Rattle.formats.proofs.writing.write_lines.Goals as goal
 
-pub loop-line-init : goal.loop-line-init
-loop-line-init c = (omega arith, paste_none c.args.image.now c.args.at [])
+pub put-requires : goal.put-requires
+put-requires c =
+    let l = c.loop-line in
+    omega (arith, c.requires, c.loop-line-test.true, l.invariant.0.count, l.invariant.0.room, lines_count c.args.standing.now.lines.now l.line-index l.auto.line-index-end)
+
+pub put-requires-in-loop-line : goal.put-requires-in-loop-line
+put-requires-in-loop-line c =
+    let l = c.loop-line in
+    let one = c.put.ensures.writes in
+    omega (arith, c.requires, c.loop-line-test.true, l.invariant.0.count, l.invariant.0.room, one.count, one.room, lines_count c.args.standing.now.lines.now l.line-index l.auto.line-index-end)
 
 pub loop-line-preserved : goal.loop-line-preserved
 loop-line-preserved c =
-    let ls = c.args.lines.now in
-    let i = c.loop-line.line-index in
-    let l : i < length ls = c.loop-line-test.true in (
-      omega (arith, c.loop-line.invariant.0),
-      line_written ls c.args.image.now c.loop-line.image c.args.at i c.loop-line.next c.make_word.result c.make_word-in-loop-line.result _ l c.requires.room c.loop-line.auto.image
-          c.requires.children c.requires.parents c.loop-line.invariant.0 c.make_word.ensures c.make_word-in-loop-line.ensures c.loop-line.invariant.1,
-    )
-
-pub returns : goal.returns
-returns c =
-    let ls = c.args.lines.now in
-    let whole = take_all c.loop-line.line-index ls c.loop-line-test.false in
-    let count : 2 * c.loop-line.line-index ≡ 2 * length ls = omega (arith, c.loop-line-test.false, c.loop-line.auto.line-index-end) in
-    c.loop-line.invariant.1 ∙ ap₂ (λ (ms : List Line) (n : ℕ). paste c.args.image.now c.args.at (flat_map line_words ms) n) whole count
+    let l = c.loop-line in
+    let s = c.args.standing.now in
+    (writes_more _ _ _ _ _ _ l.invariant.0 (writes_more _ _ _ _ _ _ c.put.ensures.writes c.put-in-loop-line.ensures.writes refl) (lines_more c.args.standing.now.lines.now l.line-index _ (children_below (2 ^ 28) (serials_of s.kinds.now) s.serials s.lines.now s.joins) (parents_below (2 ^ 28) (serials_of s.kinds.now) s.serials s.lines.now s.joins) c.loop-line-test.true), c.put-in-loop-line.ensures.lender ∙ c.put.ensures.lender ∙ l.invariant.1)

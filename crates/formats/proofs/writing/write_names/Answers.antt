@@ -1,13 +1,13 @@
-use Rattle.std.proofs.Common.{◌<◌, length, sym, arith}
-use Rattle.std.proofs.lemmas.List.{length-map, get_or-map}
-use Rattle.descent.specs.Lines.{serials_of}
-use Rattle.formats.proofs.ImageWriting.{name_written}
+use Rattle.std.proofs.Common.{◌∙◌, arith}
+use Rattle.formats.proofs.WriterLaws.{writes_more, names_more, names_count}
 use Rattle.formats.proofs.writing.write_names.Goals as goal
 
-pub loop-i-preserved : goal.loop-i-preserved
-loop-i-preserved c =
-    let ks = c.args.kinds.now in
-    let long = length-map ks (λ k. k.serial) in
-    let l : c.loop-i.i < length ks = c.loop-i-test.true in
-    name_written (serials_of ks) c.args.image.now c.loop-i.image c.loop-i.i _ c.make_word.result c.requires.serials (omega arith) (omega (arith, c.requires.room))
-    (sym (get_or-map (λ k. k.serial) ks c.loop-i.i _ 0 l)) c.make_word.ensures c.loop-i.invariant
+pub put-requires : goal.put-requires
+put-requires c =
+    let l = c.loop-kind in
+    omega (arith, c.requires, c.loop-kind-test.true, l.invariant.0.count, l.invariant.0.room, names_count c.args.standing.now.kinds.now l.kind-index l.auto.kind-index-end)
+
+pub loop-kind-preserved : goal.loop-kind-preserved
+loop-kind-preserved c =
+    let l = c.loop-kind in
+    (writes_more _ _ _ _ _ _ l.invariant.0 c.put.ensures.writes (names_more c.args.standing.now.kinds.now l.kind-index _ c.args.standing.now.serials c.loop-kind-test.true), c.put.ensures.lender ∙ l.invariant.1)

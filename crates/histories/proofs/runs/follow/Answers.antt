@@ -1,17 +1,14 @@
-use Rattle.std.proofs.Common.{◌≡◌, ℕ}
-use Rattle.histories.specs.Calls.{rooms}
-use Rattle.histories.proofs.Holding.{holds_next, holds-all}
+use Rattle.histories.proofs.Following.{holds_next, holds-all, same_then}
 use Rattle.histories.proofs.runs.follow.Goals as goal
 
-same_rooms : (t a b c d t' a' b' c' d' : ℕ) → t ≡ t' → a ≡ a' → b ≡ b' → c ≡ c' → d ≡ d' → rooms t a b c d ≡ rooms t' a' b' c' d'
-same_rooms t a b c d t' a' b' c' d' o p q r s = cc
-
 pub loop-call-preserved : goal.loop-call-preserved
-loop-call-preserved g c = λ m h.
-    let l = c.loop-call in
-    holds_next _ _ _ _ _ _ m c.args.calls.now l.call-index _ c.loop-call-test.true
-    (same_rooms _ _ _ _ _ _ _ _ _ _ l.auto.table l.auto.marks l.auto.walk l.auto.ring l.auto.words)
-    c.obey.ensures (l.invariant m h)
+loop-call-preserved g c =
+    let l = c.loop-call in (
+      same_then _ _ _ l.invariant.0 c.make.ensures.lent,
+      λ m h.
+          holds_next _ _ _ _ _ _ m c.args.calls.now l.call-index _ _ c.loop-call-test.true l.invariant.0.long
+          c.make.ensures.answered (l.invariant.1 m h),
+    )
 
-pub returns : goal.returns
-returns g c = λ m h. holds-all _ _ _ m c.args.calls.now c.loop-call.call-index c.loop-call-test.false (c.loop-call.invariant m h)
+pub returns-clause-held : goal.returns-clause-held
+returns-clause-held g c = λ m h. holds-all _ _ _ m c.args.calls.now c.loop-call.call-index c.loop-call-test.false (c.loop-call.invariant.1 m h)

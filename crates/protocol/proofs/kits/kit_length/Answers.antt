@@ -1,24 +1,26 @@
-use Rattle.std.proofs.Common.{sym, ◌∙◌, arith}
-use Rattle.protocol.proofs.Ends.{kit_is}
+use Rattle.std.proofs.Common.{◌≡◌, ◌+◌, min, true, false, refl, sym, ap, ◌∙◌}
+use Rattle.protocol.specs.Kits.{kit_length}
+use Rattle.protocol.proofs.Ends.{no_head, kit_ends, kit_is}
 use Rattle.protocol.proofs.kits.kit_length.Goals as goal
 
-pub returns-else-not-is_kind-clause-value : goal.returns-else-not-is_kind-clause-value
-returns-else-not-is_kind-clause-value c =
-    let most = c.most_words-most.ensures in
-    let loop = c.loop-end.invariant in
-    kit_is c.args.words.now c.most_words-most.result c.loop-end.end loop.0 loop.1 loop.2 most.whole most.counted loop.3
-    (λ within more. sym c.is_kind.ensures ∙ c.if-not-is_kind.false)
+then_value : (c : goal.After-min) → c.min.result + 1 ≡ kit_length c.args.words.now
+then_value c =
+    kit_is c.args.words.now true c.before_head-inside.result c.min.result c.in-len1-up.len_at_least c.before_head-inside.ensures.value
+    (sym c.is_kind.ensures ∙ c.if-is_kind.true) (c.min.ensures ∙ ap (λ l. min c.before_head-inside.result l) c.low_bits.ensures)
 
-pub returns-else-end-most-clause-value : goal.returns-else-end-most-clause-value
-returns-else-end-most-clause-value c =
-    let most = c.most_words-most.ensures in
-    let loop = c.loop-end.invariant in
-    kit_is c.args.words.now c.most_words-most.result c.loop-end.end loop.0 loop.1 loop.2 most.whole most.counted loop.3
-    (λ within more. absurd (omega (arith, more, c.if-end-most.false)))
+pub returns-then-is_kind-clause-one : goal.returns-then-is_kind-clause-one
+returns-then-is_kind-clause-one c = λ k some less. no_head c.args.words.now _ k (then_value c) some less
 
-pub returns-after-loop-end-clause-value : goal.returns-after-loop-end-clause-value
-returns-after-loop-end-clause-value c =
-    let most = c.most_words-most.ensures in
-    let loop = c.loop-end.invariant in
-    kit_is c.args.words.now c.most_words-most.result c.loop-end.end loop.0 loop.1 loop.2 most.whole most.counted loop.3
-    (λ within more. absurd (omega (arith, within, c.loop-end-test.false)))
+pub returns-then-is_kind-clause-stops : goal.returns-then-is_kind-clause-stops
+returns-then-is_kind-clause-stops c = λ less. kit_ends c.args.words.now _ (then_value c) less
+
+else_value : (c : goal.Else-is_kind) → c.before_head-inside.result + 1 ≡ kit_length c.args.words.now
+else_value c =
+    kit_is c.args.words.now false c.before_head-inside.result _ c.in-len1-up.len_at_least c.before_head-inside.ensures.value
+    (sym c.is_kind.ensures ∙ c.if-is_kind.false) refl
+
+pub returns-else-is_kind-clause-one : goal.returns-else-is_kind-clause-one
+returns-else-is_kind-clause-one c = λ k some less. no_head c.args.words.now _ k (else_value c) some less
+
+pub returns-else-is_kind-clause-stops : goal.returns-else-is_kind-clause-stops
+returns-else-is_kind-clause-stops c = λ less. kit_ends c.args.words.now _ (else_value c) less

@@ -8,9 +8,13 @@ use Rattle.questions.proofs.evaluation.run.Given as goal
 -- what is left to read decides the refusal and the value
 abbrev pub invariant-loop-placed : goal.invariant-loop-placed
 invariant-loop-placed g l =
-    (words_refusal (g.N.Names.standing l.names) (place l.reader) (length (held l.stack)) (unread l.reader) ≡ question_refusal (g.N.Names.standing l.names) l.words)
-    × ((p : ℕ) → p < g.T.Truth.sort.width → holds (λ k. g.N.Names.named l.names k p) (g.N.Names.whole l.names p) (seen g.T.Truth.sort p l.stack) (unread l.reader) ≡ value_of (g.N.Names.named l.names) (g.N.Names.whole l.names) l.words p)
-    × SameSlots l.initial.stack l.stack
-
-abbrev pub decreases-loop-placed : goal.decreases-loop-placed
-decreases-loop-placed g l = length (unread l.reader)
+    let s = g.T.Truth.sort in
+    let names = g.N.Names in
+    let reader = l.placed-iterator in
+    record {
+      refusal : words_refusal (names.standing l.names) (place reader) (length (held l.stack)) (unread reader) ≡ question_refusal (names.standing l.names) l.words;
+      value : (p : ℕ) → p < s.width →
+          holds (λ k. names.named l.names k p) (names.whole l.names p) (seen s p l.stack) (unread reader)
+          ≡ value_of (names.named l.names) (names.whole l.names) l.words p;
+      slots : SameSlots l.initial.stack l.stack;
+    }

@@ -1,10 +1,6 @@
 use Rattle.std.proofs.Common.{not, ◌&&◌}
-use Rattle.stack.proofs.Depths.{freed}
 use Rattle.questions.proofs.Seen.{turned_top}
 use Rattle.questions.proofs.step.lack_top.Goals as goal
-
-pub put-requires : goal.put-requires
-put-requires g c = freed c.args.stack.now c.taken-a.new.stack _ c.taken-a.ensures.after c.taken-a.ensures.slots
 
 pub returns : goal.returns
 returns g c =

@@ -1,8 +1,14 @@
-use Rattle.std.proofs.Common.{◌≡◌, refl, arith, rules}
+use Rattle.std.proofs.Common.{◌≡◌, ◌&&◌, ◌||◌, refl, arith, rules}
 use Rattle.words.specs.declared.word.WordKind.TheVariants.{All, Nothing}
 use Rattle.words.specs.Words.{kind_number, rule_of}
 use Rattle.questions.proofs.Steps.{stepped_put}
 use Rattle.questions.proofs.step.operate.Goals as goal
+
+pub returns-in-And : goal.returns-in-And
+returns-in-And g c = let t = c.combine.ensures ◌&&◌ (λ a b left met. met) in search rules
+
+pub returns-in-Or : goal.returns-in-Or
+returns-in-Or g c = let t = c.combine-in-Or.ensures ◌||◌ (λ a b left met. met) in search rules
 
 pub returns-in-All : goal.returns-in-All
 returns-in-All g c =

@@ -17,22 +17,16 @@ put-requires g c =
     let r = row_by_kind (kind_number c.args.placed.word) Name k in
     search rules
 
-pub returns-in-Some-named : goal.returns-in-Some-named
-returns-in-Some-named g c =
+pub returns-in-Some-named-clause-after : goal.returns-in-Some-named-clause-after
+returns-in-Some-named-clause-after g c =
     let v = c.in_ok-named.ensures.value in
     let l : (rule_of (kind_number c.args.placed.word)).low ≡ low.Serial = search rules in
     let s : (rule_of (kind_number c.args.placed.word)).effect ≡ Some c.in-Some.effect = search rules in
-    let k = name_by_low (kind_number c.args.placed.word) c.in-Some.effect l s in
-    let n = c.in_ok-named.ensures.refused in
-    let e = c.in_ok-check_effect.ensures in
     let a : Agree g.T.Truth.sort.width (g.T.Truth.sort.reads c.in-Some-named.row) (g.N.Names.named c.args.names.now (low_bits c.args.placed.word)) = search rules in
-    record {
-      refused = search rules;
-      after = stepped_put g.T.Truth.sort _ _ c.args.placed.word c.args.stack.now c.put.new.stack _ _ Name k
-          (λ p entries. refl)
-          (omega arith)
-          c.put.ensures.after
-          c.put.ensures.slots
-          a;
-      slots = c.put.ensures.slots;
-    }
+    stepped_put g.T.Truth.sort _ _ c.args.placed.word c.args.stack.now c.put.new.stack _ _ Name
+    (name_by_low (kind_number c.args.placed.word) c.in-Some.effect l s)
+    (λ p entries. refl)
+    (omega arith)
+    c.put.ensures.after
+    c.put.ensures.slots
+    a

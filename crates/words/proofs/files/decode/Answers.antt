@@ -1,22 +1,21 @@
-use Rattle.std.proofs.Common.{◌≡◌, ◌<◌, ◌≤◌, [], length, get_or, vec_items, sym, ◌∙◌, append-nil, rules}
-use Rattle.std.proofs.lemmas.List.{nil_from_length}
-use Rattle.words.specs.Files.{bytes_of}
+use Rattle.std.proofs.Common.{◌≡◌, ◌/◌, ◌*◌, ◌<◌, ◌≤◌, length, vec_items, sym, ◌∙◌, arith, rules}
+use Rattle.std.proofs.lemmas.List.{take_all}
+use Rattle.std.specs.Simd.{first_chunks}
 use Rattle.words.proofs.Bytes.{decode_more, same_from_bytes_of}
 use Rattle.words.proofs.files.decode.Goals as goal
 
-pub loop-left-preserved : goal.loop-left-preserved
-loop-left-preserved c =
-    let four : 4 ≤ length c.loop-left.left.now = search rules in
-    let b1 : get_or c.loop-left.left.now 1 0 < 256 = search rules in
-    let b2 : get_or c.loop-left.left.now 2 0 < 256 = search rules in
-    let b3 : get_or c.loop-left.left.now 3 0 < 256 = search rules in
-    let more = decode_more (vec_items c.loop-left.words) c.loop-left.left.now c.args.bytes.now four b1 b2 b3 c.loop-left.invariant.0 c.loop-left.invariant.1 in
+pub loop-chunk-preserved : goal.loop-chunk-preserved
+loop-chunk-preserved c =
+    let bytes = c.args.bytes.now in
+    let within : c.loop-chunk.chunk-index < length bytes / 4 = omega (arith, c.loop-chunk-test.true, c.as_chunks.ensures.front_len) in
+    let more = decode_more (vec_items c.loop-chunk.words) bytes c.loop-chunk.chunk-index (λ k. omega (arith, c.type_inv.bytes k)) within c.loop-chunk.invariant in
     let pushed = c.in_ok-push.ensures.items in
     let word = c.from_be_bytes.ensures in
-    simp (pushed, word) more
+    let front : c.as_chunks.result.0.now ≡ first_chunks 4 (length bytes / 4) bytes = c.as_chunks.ensures.front in
+    rw (pushed, word, front) more
 
 pub returns : goal.returns
 returns c =
-    let none : c.loop-left.left.now ≡ [] = nil_from_length c.loop-left.left.now (search rules) in
-    let back : bytes_of (vec_items c.loop-left.words) ≡ c.args.bytes.now = sym (append-nil _) ∙ (rw none at c.loop-left.invariant.0) in
+    let whole : length c.args.bytes.now ≤ c.loop-chunk.chunk-index * 4 = search rules in
+    let back = c.loop-chunk.invariant ∙ take_all (c.loop-chunk.chunk-index * 4) c.args.bytes.now whole in
     record { back = back; only = λ others e. same_from_bytes_of _ others (back ∙ sym e) }

@@ -1,5 +1,4 @@
-use Rattle.std.proofs.Common.{◌<◌, get_or, arith, rules}
-use Rattle.std.proofs.lemmas.List.{take_all}
+use Rattle.std.proofs.Common.{◌<◌, get_or, arith}
 use Rattle.words.proofs.Bytes.{bytes_of_more}
 use Rattle.words.proofs.files.encode.Goals as goal
 
@@ -10,6 +9,3 @@ loop-word-preserved c =
     let appended = c.in_ok-extend_from_slice.ensures.items in
     let four = c.to_be_bytes.ensures in
     cc
-
-pub returns : goal.returns
-returns c = search (rules, take_all)

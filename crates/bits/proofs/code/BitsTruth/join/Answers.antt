@@ -1,21 +1,16 @@
-use Rattle.std.proofs.Common.{◌||◌, arith, length-set, rules}
+use Rattle.std.proofs.Common.{◌||◌, arith}
 use lib.Bits.{bit_or, or_lt}
 use Rattle.bits.proofs.Digits.{digit_or}
-use Rattle.bits.proofs.WordRows.{fit_set, done_none, done_more, done_all}
+use Rattle.bits.proofs.WordRows.{done_fit, done_all}
 use Rattle.bits.proofs.code.BitsTruth.join.Goals as goal
 
-pub loop-i-init : goal.loop-i-init
-loop-i-init c = done_none bit_or c.args.self.now.words c.args.other.now.words
-
-pub loop-i-preserved : goal.loop-i-preserved
-loop-i-preserved c =
-    done_more bit_or c.args.self.now.words c.args.other.now.words c.loop-i.self.words c.loop-i.i (omega arith) c.loop-i.invariant
-
-pub invariant_of-self : goal.invariant_of-self
-invariant_of-self c =
-    record { whole = simp length-set c.loop-i.self.whole; fits = fit_set c.loop-i.self.words c.loop-i.i _ (omega arith) (search (rules, or_lt)) c.loop-i.self.fits }
+pub invariant_of-self-clause-fits : goal.invariant_of-self-clause-fits
+invariant_of-self-clause-fits c =
+    let self = c.args.self.now in
+    let other = c.args.other.now in
+    done_fit bit_or self.words other.words c.loop-i.word-items c.loop-i.i self.fits other.fits c.loop-i.invariant.1 (or_lt 64)
 
 pub returns : goal.returns
 returns c =
-    done_all bit_or ◌||◌ c.args.self.now.words c.args.other.now.words c.loop-i.self.words c.loop-i.i (omega arith) c.args.self.now.fits c.loop-i.invariant
+    done_all bit_or ◌||◌ c.args.self.now.words c.args.other.now.words c.loop-i.word-items c.loop-i.i (omega arith) c.args.self.now.fits c.loop-i.invariant.1
     (λ m n p _ _. digit_or m n p)

@@ -8,4 +8,4 @@ pub returns : goal.returns
 returns c =
     let v = c.args.self.now in
     let p = c.args.place in
-    sym (has_count v p c.below.result c.below.ensures) ∙ ap (λ (t : Bool). t && packets_have v p) (sym (lt-ltb p 512 (omega arith)))
+    sym (has_count v p c.below.result c.below.ensures.count) ∙ ap (λ (t : Bool). t && packets_have v p) (sym (lt-ltb p 512 (omega arith)))

@@ -1,8 +1,7 @@
-use Rattle.std.proofs.Common.{◌||◌}
-use Rattle.packets.specs.Packets.{packets_have}
-use Rattle.codes.specs.Sorts.{Agree}
-use Rattle.packets.proofs.Walk.{walked}
+use Rattle.std.proofs.Common.{◌*◌, drop}
+use Rattle.packets.specs.Packets.{packets_have, bounds_of}
+use Rattle.packets.proofs.Walk.{Joined}
 use Rattle.packets.proofs.code.PacketsTruth.join.Given as goal
 
-abbrev pub invariant-loop-i : goal.invariant-loop-i
-invariant-loop-i l = Agree 512 (packets_have l.self) (λ p. walked l.other l.i p || packets_have l.initial.self p)
+abbrev pub invariant-loop-first : goal.invariant-loop-first
+invariant-loop-first l = Joined (packets_have l.fn.self) (bounds_of l.other) (drop (l.first-index * 2) (bounds_of l.other)) (packets_have l.self)

@@ -1,10 +1,15 @@
-use Rattle.std.proofs.Common.{◌≡◌, ℕ, ◌≤◌, get_or, subst, arith}
-use Rattle.packets.specs.Found.{found}
+use Rattle.std.proofs.Common.{rules, of_calls, ltb}
+use Rattle.std.proofs.lemmas.Fn.{always_returns_same}
+use Rattle.packets.specs.Packets.{bounds_of}
+use Rattle.packets.specs.Found.{rising}
+use Rattle.packets.proofs.Halving.{low_first, point_counts}
 use Rattle.packets.proofs.value.Packets.below.Goals as goal
 
-pub returns : goal.returns
-returns c =
+pub returns-clause-count : goal.returns-clause-count
+returns-clause-count c =
     let v = c.args.self.now in
-    let l = c.loop-low in
-    found v c.args.n l.low (omega arith) l.invariant.2
-    (λ h. let met : l.high ≡ l.low = omega arith in subst (λ (k : ℕ). c.args.n ≤ get_or v.row.at k 0) met (l.invariant.3 (omega arith)))
+    let n = c.args.n in
+    let key = always_returns_same _ _ _ (λ a r f k. search (rules, of_calls)) in
+    rw (← c.as_slice.ensures)
+    (point_counts 512 n c.as_slice.result.now c.partition_point.result (rw c.as_slice.ensures (rising v)) c.partition_point.ensures.bound
+    (c.partition_point.ensures.partitioned (λ b. ltb b n) key (rw c.as_slice.ensures (low_first 512 0 n (bounds_of v) (rising v)))))

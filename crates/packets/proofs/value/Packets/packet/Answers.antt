@@ -1,21 +1,21 @@
-use Rattle.std.proofs.Common.{ℕ, ◌+◌, ◌*◌, Some, sym, ◌∙◌, ap₂, arith}
+use Rattle.std.proofs.Common.{[], sym, ◌∙◌}
 use Rattle.packets.specs.Packets.{bounds_of}
-use Rattle.packets.specs.Filling.{held-length}
-use Rattle.packets.specs.Found.{bound_at}
-use Rattle.packets.proofs.Pairs.{packet_none, packet_there, belongs}
+use Rattle.packets.proofs.Pairs.{in_pairs, no_packet, packet_pair, belongs}
 use Rattle.packets.proofs.value.Packets.packet.Goals as goal
 
-pub returns-then-index-self : goal.returns-then-index-self
-returns-then-index-self c =
-    let v = c.args.self.now in
-    record { value = sym (packet_none (bounds_of v) c.args.index (omega (arith, held-length v.row))); belongs = belongs (bounds_of v) }
+pub returns-in_err-first : goal.returns-in_err-first
+returns-in_err-first c =
+    let pairs = in_pairs c.as_slice.ensures c.as_chunks.ensures.front_len c.as_chunks.ensures.front in
+    record {
+      value = c.from_residual.ensures ∙ sym (no_packet pairs c.args.index c.in_err-first.ensures.lookup.3);
+      belongs = belongs (bounds_of c.args.self.now);
+    }
 
 pub returns : goal.returns
 returns c =
-    let v = c.args.self.now in
-    let i = c.args.index in
+    let pairs = in_pairs c.as_slice.ensures c.as_chunks.ensures.front_len c.as_chunks.ensures.front in
+    let there = c.in_ok-first.ensures.lookup.3 in
     record {
-      value = sym (packet_there (bounds_of v) i (omega (arith, held-length v.row))
-          ∙ ap₂ (λ (l u : ℕ). Some (l, u)) (bound_at v (2 * i) (omega arith)) (bound_at v (2 * i + 1) (omega arith)));
-      belongs = belongs (bounds_of v);
+      value = packet_pair pairs c.args.index there.0 (there.1 []) c.from.ensures c.from-2.ensures;
+      belongs = belongs (bounds_of c.args.self.now);
     }

@@ -1,6 +1,0 @@
-use Rattle.std.proofs.Common.{◌≡◌, ℕ, ◌*◌, ◌<◌, ◌≤◌, false}
-use Rattle.bits.specs.Bits.{words_have}
-use Rattle.bits.proofs.code.BitsCode.next.Given as goal
-
-abbrev pub invariant-loop-i : goal.invariant-loop-i
-invariant-loop-i l = (p : ℕ) → l.from ≤ p → p < l.i * 64 → words_have l.self.words p ≡ false
