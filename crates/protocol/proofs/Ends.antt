@@ -1,8 +1,7 @@
 -- Where the first kit ends, read off the words of the file.
-use Rattle.std.proofs.Common.{◌≡◌, ℕ, zero, suc, ◌+◌, ◌-◌, ◌<◌, ◌≤◌, min, Bool, true, false, cond, List, [], ◌∷◌, length, get_or, take, drop, sym, refl, ap, ◌∙◌, ◌⊎◌, inl, inr, arith}
+use Rattle.std.proofs.Common.{◌≡◌, ℕ, zero, suc, ◌+◌, ◌<◌, ◌≤◌, min, Bool, true, false, cond, List, [], ◌∷◌, length, get_or, take, drop, sym, refl, ◌∙◌, ◌⊎◌, inl, inr, arith}
 use Rattle.std.proofs.lemmas.Bool.{not-true, not-false, cases_order}
-use Rattle.std.proofs.lemmas.List.{take_rest}
-use Rattle.std.proofs.lemmas.List.Sums.{prefix_len_passes, prefix_len_stops}
+use Rattle.std.proofs.lemmas.List.Sums.{prefix_len_passes, prefix_len_stops, prefix_len-le-length}
 use Rattle.words.specs.declared.word.WordKind.TheVariants.{AnswerHead}
 use Rattle.words.specs.Words.{is_kind, low_bits}
 use Rattle.protocol.specs.Kits.{inside, before_head, kit_length}
@@ -44,10 +43,29 @@ kit_ends (head ∷ rest) (suc m) e less =
       | inr full ↦ inr (full.0, omega (arith, full.1))
     ])
 
--- a first word and so many behind it
-pub kit_is : (words : List ℕ) (b : Bool) (m n : ℕ) → 1 ≤ length words → m ≡ before_head (take (length words - 1) (drop 1 words)) → is_kind AnswerHead (get_or words 0 0) ≡ b → n ≡ cond b (min m (low_bits (get_or words 0 0))) m → n + 1 ≡ kit_length words
-kit_is [] b m n some before head counted = absurd (omega (arith, some))
-kit_is (first ∷ rest) b m n some before head counted =
-    let front : m ≡ before_head rest = before ∙ ap before_head (take_rest (first ∷ rest) 1) in
-    let same : n ≡ cond (is_kind AnswerHead first) (min (before_head rest) (low_bits first)) (before_head rest) = rw (head, sym front) counted in
+step : (b : Bool) (m k n : ℕ) → k ≡ min m n → cond b (1 + k) 0 ≡ min (cond b (1 + m) 0) (suc n)
+step true m k n e = omega (arith, e)
+step false m k n e = omega arith
+
+-- where no more words than there are is the bound, it is none
+within : (b : Bool) (m k low most n : ℕ) → m ≤ k → most ≡ cond b (min k low) k → n ≡ min m most → n ≡ cond b (min m low) m
+within true m k low most n le e f = omega (arith, le, e, f)
+within false m k low most n le e f = omega (arith, le, e, f)
+
+-- looked for among the first n words, the next head is where it is, or none is found
+cut_before : (n : ℕ) (words : List ℕ) → before_head (take n words) ≡ min (before_head words) n
+cut_before zero words = omega arith
+cut_before (suc n) [] = omega arith
+cut_before (suc n) (word ∷ words) = step (inside word) (before_head words) _ n (cut_before n words)
+
+-- a first word and those behind it that a kit may have, up to the next head
+pub kit_is : (words rest : List ℕ) (b : Bool) (most n : ℕ) → 1 ≤ length words → rest ≡ drop 1 words → is_kind AnswerHead (get_or words 0 0) ≡ b
+    → most ≡ cond b (min (length rest) (low_bits (get_or words 0 0))) (length rest)
+    → n ≡ before_head (take most rest) → n + 1 ≡ kit_length words
+kit_is [] rest b most n some behind head counted before = absurd (omega (arith, some))
+kit_is (first ∷ tail) rest b most n some behind head counted before =
+    let least : n ≡ min (before_head rest) most = before ∙ cut_before most rest in
+    let here : n ≡ cond b (min (before_head rest) (low_bits first)) (before_head rest) =
+    within b (before_head rest) (length rest) (low_bits first) most n (prefix_len-le-length inside rest) counted least in
+    let same : n ≡ cond (is_kind AnswerHead first) (min (before_head tail) (low_bits first)) (before_head tail) = rw (head, sym behind) here in
     omega (arith, same)

@@ -19,12 +19,13 @@ pub fn kit_length(words: &[u32]) -> usize
     let [head, rest @ ..] = words else {
         return 0;
     };
-    let inside = before_head(rest);
-    if is_kind(*head, WordKind::AnswerHead) {
-        inside.min(low_bits(*head) as usize) + 1
+    // Cut first, so that no word behind the kit is looked at.
+    let most = if is_kind(*head, WordKind::AnswerHead) {
+        rest.len().min(low_bits(*head) as usize)
     } else {
-        inside + 1
-    }
+        rest.len()
+    };
+    before_head(&rest[..most]) + 1
 }
 
 // How many words come before the next head.
