@@ -4,7 +4,7 @@ use Rattle.std.specs.Simd.{first_chunks}
 use Rattle.std.proofs.lemmas.Bool.{both_ways, leb-true, ltb-true, le-leb, lt-ltb, and_parts, and_from, or_cases, or_left, or_right}
 use Rattle.packets.specs.Bounds.{inside, packet_at, SomePacketHas}
 
-packet_none : (xs : List ℕ) (i : ℕ) → length xs ≤ 2 * i + 1 → packet_at xs i ≡ None
+pub packet_none : (xs : List ℕ) (i : ℕ) → length xs ≤ 2 * i + 1 → packet_at xs i ≡ None
 packet_none [] i h = refl
 packet_none (l ∷ []) i h = refl
 packet_none (l ∷ u ∷ xs) zero h = absurd (omega arith)

@@ -29,6 +29,6 @@ impl Packets {
         ensures equal { Decides result (self.now ≡ other.now) }
         ensures places { Decides result (Agree 512 (packets_have self.now) (packets_have other.now)) }
     {
-        self == other
+        self.row.as_slice() == other.row.as_slice()
     }
 }
