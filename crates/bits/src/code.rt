@@ -47,8 +47,13 @@ impl Truth for Bits {
         self.words
     }
 
+    // Word by word: a row that is handed on whole is copied once more, which takes longer than all the rest.
     fn read(row: [u64; WORDS]) -> Bits {
-        Bits { words: row }
+        let mut words = [0; WORDS];
+        for (i, word) in words.iter_mut().enumerate() {
+            *word = row[i];
+        }
+        Bits { words }
     }
 }
 
