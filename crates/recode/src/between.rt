@@ -28,11 +28,13 @@ pub fn bits_of(packets: &Packets) -> Bits
     ensures { Twins result packets.now }
 {
     let mut bits = <Bits as Truth>::empty();
-    // As above: only the places that are in are met.
-    let mut from = 0;
-    while let Some(place) = packets.next(from) {
-        let _ = bits.put(place);
-        from = place + 1;
+    // Packet by packet, so that no place is searched for.
+    for index in 0..packets.count() {
+        if let Some((first, after)) = packets.packet(index) {
+            for place in first..after {
+                let _ = bits.put(place);
+            }
+        }
     }
     bits
 }
