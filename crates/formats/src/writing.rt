@@ -1,5 +1,5 @@
 // Writing the image of what stands: a head, a name for each kind, two words for each line, and an end.
-ghost use Rattle.std.specs.Prelude.{◌≡◌, ◌+◌, ◌*◌, ◌≤◌, map, length};
+ghost use Rattle.std.specs.Prelude.{◌≡◌, ◌*◌, map, length};
 ghost use Rattle.std.specs.List.{flat_map};
 ghost use Rattle.descent.specs.Lines.{serials_of};
 ghost use Rattle.words.specs.declared.word.WordKind.TheVariants.{Name};
@@ -7,34 +7,29 @@ ghost use Rattle.words.specs.Words.{word_of};
 ghost use Rattle.words.specs.Refusals.{Says, image_told, list_refusal};
 ghost use Rattle.formats.specs.Formats.{Listed, image_of, image_length, line_words};
 ghost use Rattle.formats.specs.Images.{ReadsBack, TellsApart};
-ghost use Rattle.formats.specs.Writing.{Writes};
 
 use super::source::ImageSource;
-use super::writer::put;
 use descent::Standing;
-use stack::Stack;
-use words::{ImageFault, WordKind, need};
+use words::{ImageFault, WordKind, make_word, need};
 
 // Writes a name for each kind.
-fn write_names(standing: &Standing<'_>, image: &mut Stack<'_, u32>)
-    requires { image.old.depth + length standing.now.kinds.now ≤ length image.old.slots.now }
-    ensures writes { Writes image.old image.new (map (word_of Name) (serials_of standing.now.kinds.now)) }
-    ensures lender { image.new.slots.ghost_name ≡ image.old.slots.ghost_name }
+fn write_names(standing: &Standing<'_>, names: &mut [u32])
+    requires { length names.old ≡ length standing.now.kinds.now }
+    ensures { names.new ≡ map (word_of Name) (serials_of standing.now.kinds.now) }
 {
-    for kind in standing.kinds {
-        put(image, WordKind::Name, kind.serial);
+    for (i, kind) in standing.kinds.iter().enumerate() {
+        names[i] = make_word(WordKind::Name, kind.serial);
     }
 }
 
 // Writes a child word and a parent word for each line.
-fn write_lines(standing: &Standing<'_>, image: &mut Stack<'_, u32>)
-    requires { image.old.depth + 2 * length standing.now.lines.now ≤ length image.old.slots.now }
-    ensures writes { Writes image.old image.new (flat_map line_words standing.now.lines.now) }
-    ensures lender { image.new.slots.ghost_name ≡ image.old.slots.ghost_name }
+fn write_lines(standing: &Standing<'_>, words: &mut [u32])
+    requires { length words.old ≡ 2 * length standing.now.lines.now }
+    ensures { words.new ≡ flat_map line_words standing.now.lines.now }
 {
-    for line in standing.lines {
-        put(image, WordKind::Child, line.child);
-        put(image, WordKind::Parent, line.parent);
+    for (i, line) in standing.lines.iter().enumerate() {
+        words[2 * i] = make_word(WordKind::Child, line.child);
+        words[2 * i + 1] = make_word(WordKind::Parent, line.parent);
     }
 }
 
@@ -48,12 +43,11 @@ pub fn write_image(source: &ImageSource<'_>, image: &mut [u32]) -> Result<usize,
 {
     let standing = &source.standing;
     let names = standing.kinds.len();
-    need(image.len(), 2 + names + 2 * standing.lines.len())?;
-    let mut image = Stack::new(image);
-    put(&mut image, WordKind::ImageHead, names as u32);
-    write_names(standing, &mut image);
-    write_lines(standing, &mut image);
-    let end = image.depth();
-    put(&mut image, WordKind::ImageEnd, end as u32);
+    let end = 1 + names + 2 * standing.lines.len();
+    need(image.len(), end + 1)?;
+    image[0] = make_word(WordKind::ImageHead, names as u32);
+    write_names(standing, &mut image[1..1 + names]);
+    write_lines(standing, &mut image[1 + names..end]);
+    image[end] = make_word(WordKind::ImageEnd, end as u32);
     Ok(end + 1)
 }
