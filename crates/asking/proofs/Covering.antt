@@ -16,7 +16,7 @@ apart_decides w f g =
     Decides-below_and (λ p. not (f p && g p)) (λ p. (f p && g p) ≡ false) (λ n. apart n f g)
     (λ p. (not-true (f p && g p), not_from_false (f p && g p))) refl (λ _. refl) w
 
-apart-not : (w : ℕ) (f g : ℕ → Bool) (q : ℕ) → q < w → (f q && g q) ≡ true → apart w f g ≡ false
+pub apart-not : (w : ℕ) (f g : ℕ → Bool) (q : ℕ) → q < w → (f q && g q) ≡ true → apart w f g ≡ false
 apart-not w f g q h e =
     elim (cases_Bool (apart w f g)) [
       | inl t ↦ absurd (both_ways (f q && g q) ((apart_decides w f g).0 t q h) e)

@@ -20,7 +20,7 @@ use Rattle.descent.proofs.Proper.{rising_later}
 use Rattle.descent.proofs.Rows.{left_out, stands-below, joining_inserted}
 
 -- a key tells the line, as its parent is below 2 ^ 32
-key_tells : (l m : Line) → l.parent < 2 ^ 32 → m.parent < 2 ^ 32 → line_key l ≡ line_key m → (l.child ≡ m.child) × (l.parent ≡ m.parent)
+pub key_tells : (l m : Line) → l.parent < 2 ^ 32 → m.parent < 2 ^ 32 → line_key l ≡ line_key m → (l.child ≡ m.child) × (l.parent ≡ m.parent)
 key_tells l m a b e = (omega arith, omega arith)
 
 module _ (ks : List ℕ) (few : below (2 ^ 28) ks ≡ true) where
@@ -47,7 +47,7 @@ module _ (ks : List ℕ) (few : below (2 ^ 28) ks ≡ true) where
         or_right (eqb l.child x.child && eqb l.parent x.parent) (has_line x.child x.parent ls) (line_here ls i p.1 (omega (arith, h.0), h.1))
 
     -- a line whose key differs is another
-    other-line : (l : Line) → (line_key l ≡ line_key x → ⊥) → (eqb l.child x.child && eqb l.parent x.parent) ≡ false
+    pub other-line : (l : Line) → (line_key l ≡ line_key x → ⊥) → (eqb l.child x.child && eqb l.parent x.parent) ≡ false
     other-line l ne =
         ⊎_elim
         (λ (e : (eqb l.child x.child && eqb l.parent x.parent) ≡ true).
@@ -58,7 +58,7 @@ module _ (ks : List ℕ) (few : below (2 ^ 28) ks ≡ true) where
         (λ e. e)
         (cases_Bool (eqb l.child x.child && eqb l.parent x.parent))
 
-    line-gone : (ls : List Line) → ((k : ℕ) → k < length (map line_key ls) → get_or (map line_key ls) k 0 ≡ line_key x → ⊥) → has_line x.child x.parent ls ≡ false
+    pub line-gone : (ls : List Line) → ((k : ℕ) → k < length (map line_key ls) → get_or (map line_key ls) k 0 ≡ line_key x → ⊥) → has_line x.child x.parent ls ≡ false
     line-gone [] none = refl
     line-gone (l ∷ ls) none =
         or_from (eqb l.child x.child && eqb l.parent x.parent) (has_line x.child x.parent ls) (other-line l (none 0 (omega arith)))

@@ -14,7 +14,7 @@ length_middle : (xs ys : List ℕ) (y : ℕ) → length (xs ++ y ∷ ys) ≡ len
 length_middle xs ys y = omega (arith, length-append xs (y ∷ ys), length-append xs ys)
 
 -- a place in the middle may as well stand first
-seated_middle : (w : ℕ) (xs ys : List ℕ) (y : ℕ) → seated w (xs ++ y ∷ ys) ≡ seated w (y ∷ (xs ++ ys))
+pub seated_middle : (w : ℕ) (xs ys : List ℕ) (y : ℕ) → seated w (xs ++ y ∷ ys) ≡ seated w (y ∷ (xs ++ ys))
 seated_middle w xs ys y =
     ap₂ (λ (a : ℕ) (b : Bool). eqb a w && b) (length_middle xs ys y) (ap₂ (λ (a b : Bool). a && b) (below_middle w xs ys y) (distinct_middle xs ys y))
 

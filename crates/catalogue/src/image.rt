@@ -1,5 +1,5 @@
 // A catalogue's image: written, and read into an empty catalogue, where all of it is checked before anything is changed.
-ghost use Rattle.std.specs.Prelude.{◌≡◌, ◌≤◌, true, [], map, length, OnOk};
+ghost use Rattle.std.specs.Prelude.{◌≡◌, ◌≤◌, true, [], map, length, vec_capacity, OnOk};
 ghost use Rattle.words.specs.Refusals.{Says, image_told};
 ghost use Rattle.formats.specs.Formats.{Listed, image_of, pairs_in};
 ghost use Rattle.descent.specs.Order.{rising_from, line_key};
@@ -21,6 +21,7 @@ fn take_lines(lines: &mut Sorted<Line>, words: &[u32])
     requires rising { rising_from 0 (map line_key (pairs_in words.now)) ≡ true }
     ensures entries { lines.new.entries.items ≡ pairs_in words.now }
     ensures most { lines.new.most ≡ lines.old.most }
+    ensures capacity { vec_capacity lines.new.entries ≡ vec_capacity lines.old.entries }
 {
     let mut left = words;
     while let [child, parent, rest @ ..] = left {

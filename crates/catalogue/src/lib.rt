@@ -10,6 +10,7 @@ mod seats;
 mod sorted;
 mod state;
 
+pub use closing::ClosingLists;
 pub use descent::{MAX_LINES, MAX_WIDTH};
 pub use enter::SetUpFault;
 pub use state::Catalogue;

@@ -51,6 +51,8 @@ impl Seats {
         requires low { serial < 2 ^ 28 }
         ensures seated { Seated serial at self.old.kinds.entries.items self.old.free.items self.new.kinds.entries.items self.new.free.items }
         ensures width { self.new.kinds.most ≡ self.old.kinds.most }
+        ensures capacity { vec_capacity self.new.kinds.entries ≡ vec_capacity self.old.kinds.entries }
+        ensures places { vec_capacity self.new.free ≡ vec_capacity self.old.free }
     {
         let place = self.free.take_last();
         self.kinds.insert(at, Kind { serial, place });
@@ -61,6 +63,8 @@ impl Seats {
         requires { at < vec_len self.old.kinds.entries }
         ensures freed { Freed at self.old.kinds.entries.items self.old.free.items self.new.kinds.entries.items self.new.free.items }
         ensures width { self.new.kinds.most ≡ self.old.kinds.most }
+        ensures capacity { vec_capacity self.new.kinds.entries ≡ vec_capacity self.old.kinds.entries }
+        ensures places { vec_capacity self.new.free ≡ vec_capacity self.old.free }
     {
         let kind = self.kinds.remove(at);
         self.free.push_reserved(kind.place);
@@ -73,6 +77,8 @@ impl Seats {
         requires rising { rising_from 0 (serials_in names.now) ≡ true }
         ensures serials { serials_of self.new.kinds.entries.items ≡ serials_in names.now }
         ensures width { self.new.kinds.most ≡ self.old.kinds.most }
+        ensures capacity { vec_capacity self.new.kinds.entries ≡ vec_capacity self.old.kinds.entries }
+        ensures places { vec_capacity self.new.free ≡ vec_capacity self.old.free }
     {
         for (at, name) in names.iter().enumerate() {
             self.seat(at, low_bits(*name));

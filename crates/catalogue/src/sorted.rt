@@ -8,7 +8,7 @@ use search::{Keyed, locate};
 use std::alloc::{AllocError, Global};
 
 // No more than `most` entries. A map would do, but it takes memory when an entry goes in, and here all is taken at set-up. Each change
-// says that `most` stays, since a field that is lent could be given another value.
+// says that `most` and the memory stay, since a field that is lent could be given another value.
 #[derive(Drop)]
 pub struct Sorted<T: Keyed + Drop> {
     pub(crate) most: usize,
@@ -45,15 +45,20 @@ impl<T: Keyed + Drop> Sorted<T> {
         self.entries.len() >= self.most
     }
 
-    // There is room, so it cannot fail.
+    // There is room, so it cannot fail. Behind the others nothing has to move, as where an image is read.
     pub(crate) fn insert(&mut self, at: usize, entry: T)
         requires within { at ≤ vec_len self.old.entries }
         requires room { vec_len self.old.entries < self.old.most }
         requires rising { rising_from 0 (insert (map T.Keyed.key self.old.entries.items) at (T.Keyed.key entry)) ≡ true }
         ensures entries { self.new.entries.items ≡ insert self.old.entries.items at entry }
         ensures most { self.new.most ≡ self.old.most }
+        ensures capacity { vec_capacity self.new.entries ≡ vec_capacity self.old.entries }
     {
-        self.entries.insert(at, entry).unwrap();
+        if at == self.entries.len() {
+            self.entries.push_reserved(entry);
+        } else {
+            self.entries.insert(at, entry).unwrap();
+        }
     }
 
     // Puts an entry behind the others.
@@ -62,6 +67,7 @@ impl<T: Keyed + Drop> Sorted<T> {
         requires rising { rising_from 0 (map T.Keyed.key self.old.entries.items ++ T.Keyed.key entry ∷ []) ≡ true }
         ensures entries { self.new.entries.items ≡ self.old.entries.items ++ entry ∷ [] }
         ensures most { self.new.most ≡ self.old.most }
+        ensures capacity { vec_capacity self.new.entries ≡ vec_capacity self.old.entries }
     {
         self.entries.push_reserved(entry);
     }
@@ -71,6 +77,7 @@ impl<T: Keyed + Drop> Sorted<T> {
         ensures value { result ≡ slice_index_or self.old.entries.items at result }
         ensures entries { self.new.entries.items ≡ remove self.old.entries.items at }
         ensures most { self.new.most ≡ self.old.most }
+        ensures capacity { vec_capacity self.new.entries ≡ vec_capacity self.old.entries }
     {
         self.entries.remove(at)
     }

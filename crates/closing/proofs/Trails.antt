@@ -22,7 +22,7 @@ use Rattle.closing.proofs.Direct.{serial_of_place, place-below}
 abbrev pub zeros : List ℕ → ℕ
 zeros xs = sum_by (λ x. cond (eqb x 0) 1 0) xs
 
-zeros_set : (xs : List ℕ) (i : ℕ) → i < length xs → get_or xs i 0 ≡ 0 → zeros (set xs i 1) + 1 ≡ zeros xs
+pub zeros_set : (xs : List ℕ) (i : ℕ) → i < length xs → get_or xs i 0 ≡ 0 → zeros (set xs i 1) + 1 ≡ zeros xs
 zeros_set xs i lt e =
     let zero_at : ℕ → ℕ = λ x. cond (eqb x 0) 1 0 in
     let here : zero_at (get_or xs i 0) ≡ 1 = ap zero_at e in
@@ -80,7 +80,7 @@ module _ (st : Standing) where
       ]
 
   -- the walk meets the kind ahead
-  visit : (top : ℕ) (bytes met trail : List ℕ) (kind : ℕ) → Trail bytes met trail → Ahead top trail kind →
+  pub visit : (top : ℕ) (bytes met trail : List ℕ) (kind : ℕ) → Trail bytes met trail → Ahead top trail kind →
       get_or bytes (place_of st.kinds.now kind) 0 ≡ 0 →
       Trail (set bytes (place_of st.kinds.now kind) 1) (met ++ place_of st.kinds.now kind ∷ []) (trail ++ kind ∷ [])
   visit top bytes met trail kind t a free =

@@ -1,4 +1,4 @@
-use Rattle.std.proofs.Common.{◌≡◌, ◌++◌, length, vec_items}
+use Rattle.std.proofs.Common.{◌≡◌, ◌++◌, length, vec_items, vec_capacity}
 use Rattle.formats.specs.Formats.{pairs_in}
 use Rattle.catalogue.proofs.image.take_lines.Given as goal
 
@@ -8,6 +8,7 @@ invariant-loop-left l =
     record {
       entries : vec_items l.lines.entries ++ pairs_in l.left ≡ pairs_in l.words;
       most : l.lines.most ≡ l.initial.lines.most;
+      capacity : vec_capacity l.lines.entries ≡ vec_capacity l.initial.lines.entries;
     }
 
 abbrev pub decreases-loop-left : goal.decreases-loop-left

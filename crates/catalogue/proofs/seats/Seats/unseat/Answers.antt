@@ -1,8 +1,9 @@
-use Rattle.std.proofs.Common.{◌^◌, ◌<◌, length, vec_items, arith}
+use Rattle.std.proofs.Common.{ℕ, ◌^◌, ◌<◌, List, [], ◌∷◌, ◌++◌, length, vec_items, ap, ◌∙◌, arith, rules}
 use Rattle.catalogue.specs.Seats.{Freed}
 use Rattle.catalogue.proofs.KindEdits.{withdrawn_below, withdrawn_seats}
 use Rattle.catalogue.proofs.seats.Seats.unseat.Goals as goal
 
+-- the free places only by their list: that no memory is taken is for the clause `places` alone
 pub invariant_of-self : goal.invariant_of-self
 invariant_of-self c =
     let s = c.args.self.now in
@@ -11,7 +12,7 @@ invariant_of-self c =
     let gone = c.remove-kind in
     let freed = c.push_reserved in
     let done : Freed c.args.at before (vec_items s.free) after (vec_items freed.new.self) =
-    (gone.result, gone.ensures.value, gone.ensures.entries, freed.ensures.items) in
+    (gone.result, gone.ensures.value, gone.ensures.entries, freed.ensures.items ∙ ap (λ (ps : List ℕ). ps ++ gone.result.place ∷ []) (search rules)) in
     let within : c.args.at < length before = omega (arith, s.kinds.entries.ok.0) in
     let kept = gone.ensures.most in
     record {

@@ -4,8 +4,8 @@ use Rattle.descent.specs.Order.{rising_from}
 use Rattle.descent.proofs.Rows.{map_inserted}
 use Rattle.catalogue.proofs.sorted.Sorted.insert.Goals as goal
 
-pub invariant_of-self : goal.invariant_of-self
-invariant_of-self g c =
+pub invariant_of-self-else-at-len : goal.invariant_of-self-else-at-len
+invariant_of-self-else-at-len g c =
     let s = c.args.self.now in
     let key = g.T.Keyed.key in
     let e = c.insert.ensures in
