@@ -8,7 +8,7 @@ use terminal::{Fields, parse_decimal, parse_words};
 const QUESTIONS_BUILT: bool = false;
 
 // Each call is handed the whole of every list.
-const WHOLE: usize = usize::MAX;
+pub const WHOLE: usize = usize::MAX;
 
 // A call on the catalogue, or what the program does besides.
 #[derive(Clone, Copy)]

@@ -1,5 +1,5 @@
 // A catalogue over one sort of code with the lists that its calls work in, and what each command does to it.
-use super::calls::Command;
+use super::calls::{Command, WHOLE};
 use super::files::{load_words, save_words};
 use super::kits::Kits;
 use super::notes::{write_help, write_lost, write_refused_kit, write_standing};
@@ -10,18 +10,13 @@ use histories::{Call, Memory, Reply, full_memory, make};
 use protocol::{write_ok, write_ok_kits, write_ok_words, write_ring, write_verdict};
 use std::alloc::Global;
 use std::io;
-use words::{Fault, Part, Refusal, low_bits};
+use words::{Part, low_bits};
 
 // The lists are taken once, and serve every call.
 #[derive(Drop)]
 pub struct Session<C: Code> {
     catalogue: Catalogue,
     memory: Memory<C::Row>,
-}
-
-// As many words from the start of a list as a call told.
-fn told(list: &[u32], count: usize) -> &[u32] {
-    &list[..count.min(list.len())]
 }
 
 impl<C: Code + Drop> Session<C> {
@@ -50,46 +45,42 @@ impl<C: Code + Drop> Session<C> {
         Ok(())
     }
 
-    fn make(&mut self, call: Call<'_>) -> Result<Reply<usize>, Refusal> {
-        let mut lists = self.memory.lend();
-        make::<C>(&mut self.catalogue, &mut lists, call)
-    }
-
-    // Where a ring stands, the refusal's line has the ring's words besides.
+    // Where a ring stands, the refusal's line has the ring's words besides: a head, and as many names as it counts.
     fn answer(&mut self, call: Call<'_>, out: &mut Vec<u8>) -> Result<(), Trouble> {
-        match self.make(call) {
+        let mut lists = self.memory.lend();
+        match make::<C>(&mut self.catalogue, &mut lists, call) {
             Ok(Reply::Done) => write_ok(out)?,
-            Ok(Reply::Words(count)) => write_ok_words(out, told(&self.memory.words, count))?,
+            Ok(Reply::Words(count)) => write_ok_words(out, &lists.words[..count])?,
             Ok(Reply::Verdict(fits)) => write_verdict(out, fits)?,
             Err(refusal) if refusal.part == Part::Closing => {
-                write_ring(out, refusal, self.ring())?
+                let count = low_bits(lists.ring[0]) as usize + 1;
+                write_ring(out, refusal, &lists.ring[..count])?
             }
             Err(refusal) => return Err(Trouble::Refused(refusal)),
         }
         Ok(())
     }
 
-    // A head, and as many names as it counts.
-    fn ring(&self) -> &[u32] {
-        let names = self
-            .memory
-            .ring
-            .first()
-            .map_or(0, |head| low_bits(*head) as usize);
-        told(&self.memory.ring, names + 1)
-    }
-
     // Reads an image file, and tells how much stands.
     pub fn load(&mut self, rt: &HostRuntime, path: &str, out: &mut Vec<u8>) -> Result<(), Trouble> {
         let words = load_words(rt, path)?;
-        self.catalogue.read_image(&words)?;
+        let mut lists = self.memory.lend();
+        make::<C>(
+            &mut self.catalogue,
+            &mut lists,
+            Call::ReadImage { words: &words },
+        )?;
         self.note_standing(out)?;
         Ok(())
     }
 
     fn save(&mut self, rt: &HostRuntime, path: &str, out: &mut Vec<u8>) -> Result<(), Trouble> {
-        let count = self.catalogue.write_image(&mut self.memory.words)?;
-        save_words(rt, path, &self.memory.words[0..count])?;
+        let mut lists = self.memory.lend();
+        let call = Call::WriteImage { image: WHOLE };
+        let Reply::Words(count) = make::<C>(&mut self.catalogue, &mut lists, call)? else {
+            unreachable!()
+        };
+        save_words(rt, path, &lists.words[..count])?;
         self.note_standing(out)?;
         Ok(())
     }
@@ -107,13 +98,20 @@ impl<C: Code + Drop> Session<C> {
         // Counted by hand, since the number of all kits is written at the end besides.
         for kit in Kits::new(&words) {
             count += 1;
-            match self.catalogue.recall(kit, &mut self.memory.words) {
-                Ok(left) if left < kit.len() => {
-                    changed += 1;
-                    write_lost(out, count, kit, &self.memory.words[0..left])?;
+            let mut lists = self.memory.lend();
+            let call = Call::Recall {
+                words: kit,
+                answer: WHOLE,
+            };
+            match make::<C>(&mut self.catalogue, &mut lists, call) {
+                Ok(Reply::Words(left)) => {
+                    if left < kit.len() {
+                        changed += 1;
+                        write_lost(out, count, kit, &lists.words[..left])?;
+                    }
                 }
-                Ok(_) => {}
-                Err(fault) => write_refused_kit(out, count, fault.refusal())?,
+                Ok(_) => unreachable!(),
+                Err(refusal) => write_refused_kit(out, count, refusal)?,
             }
         }
         write_ok_kits(out, count, changed)?;

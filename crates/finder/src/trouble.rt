@@ -5,7 +5,7 @@ use std::alloc::AllocError;
 use std::io::Write;
 use std::{fmt, io};
 use terminal::FieldFault;
-use words::{DecodeFault, Fault, ImageFault, Refusal};
+use words::{DecodeFault, Refusal};
 
 // Why a line was no call, or a call could not be tried.
 #[derive(Clone, Copy)]
@@ -106,8 +106,8 @@ impl From<Mistake> for Trouble {
     }
 }
 
-impl From<ImageFault> for Trouble {
-    fn from(fault: ImageFault) -> Trouble {
-        Trouble::Refused(fault.refusal())
+impl From<Refusal> for Trouble {
+    fn from(told: Refusal) -> Trouble {
+        Trouble::Refused(told)
     }
 }

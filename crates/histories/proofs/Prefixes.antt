@@ -1,5 +1,5 @@
 -- A call may be handed only the start of the code table: what that means for the table.
-use Rattle.std.proofs.Common.{◌≡◌, ℕ, ◌<◌, ◌≤◌, Bool, false, List, ◌++◌, length, get_or, vec_items, sym, refl, ap, ◌∙◌, arith}
+use Rattle.std.proofs.Common.{◌≡◌, ℕ, ◌<◌, ◌≤◌, Bool, false, List, ◌++◌, length, get_or, sym, refl, ap, ◌∙◌, arith}
 use Rattle.codes.specs.Sorts.{Sort}
 use Rattle.closing.specs.Tables.{sets_of}
 use Rattle.catalogue.specs.Table.{Table, table_of, Belongs}

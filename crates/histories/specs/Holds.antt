@@ -4,6 +4,7 @@ use Rattle.catalogue.specs.Ledger.{Ledger, Call, after}
 use Rattle.catalogue.specs.View.{View}
 use Rattle.catalogue.specs.Table.{Table, Belongs}
 use Rattle.histories.specs.declared.memory.Lists.{Lists}
+use Rattle.histories.specs.declared.memory.Memory.{Memory}
 use Rattle.histories.specs.Calls.{rooms}
 use Rattle.histories.specs.Sayings.{Saying, saying}
 
@@ -27,3 +28,13 @@ pub record SameMemory {R : Type 0} (old new : Lists R) : Type 0 where
   pub working : new.working.ghost_name ≡ old.working.ghost_name
   pub truths : new.truths.ghost_name ≡ old.truths.ghost_name
   pub long : rooms new ≡ rooms old
+
+-- the lists that are lent hold what a finder's memory holds
+pub record SameItems {R : Type 0} (m : Memory R) (l : Lists R) : Type 0 where
+  pub table : l.table.now ≡ m.table.items
+  pub words : l.words.now ≡ m.words.items
+  pub marks : l.marks.now ≡ m.marks.items
+  pub walk : l.walk.now ≡ m.walk.items
+  pub ring : l.ring.now ≡ m.ring.items
+  pub working : l.working.now ≡ m.working.items
+  pub truths : l.truths.now ≡ m.truths.items

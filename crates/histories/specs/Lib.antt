@@ -1,3 +1,4 @@
 pub mod Calls
 pub mod Sayings
 pub mod Holds
+pub mod RingLists

@@ -1,5 +1,5 @@
 -- What a call says: by the rules, and as the program tells it.
-use Rattle.std.specs.Prelude.{ℕ, Bool, List, Some, None, Ok, Err, Option, Result}
+use Rattle.std.specs.Prelude.{◌≡◌, ℕ, ◌≤◌, Bool, List, Some, None, Ok, Err, Option, Result}
 use Rattle.words.specs.declared.refusal.Refusal.{Refusal}
 use Rattle.formats.specs.Formats.{answer_of, image_of}
 use Rattle.catalogue.specs.Ledger.{Ledger, Call, refused, still_standing, answering, set_of, enter, withdraw, enter_line, withdraw_line, read_image, write_image, recall, close, ask, fit}
@@ -44,3 +44,19 @@ said words (Ok Done) = done
 said words (Ok (Words w)) = wrote (words w)
 said words (Ok (Verdict is)) = verdict is
 said words (Err told) = stopped told
+
+-- words are written
+abbrev pub Writes : Saying → Type 0
+Writes (wrote ws) = Unit {0}
+Writes _ = ⊥
+
+-- yes or no is said
+abbrev pub Judges : Saying → Type 0
+Judges (verdict is) = Unit {0}
+Judges _ = ⊥
+
+-- what a call gives as a reply tells it: so many words of a list this long, yes or no, or nothing
+abbrev pub Replies : ℕ → Saying → Reply ℕ → Type 0
+Replies room s Done = s ≡ done
+Replies room s (Words n) = Writes s × (n ≤ room)
+Replies room s (Verdict is) = Judges s

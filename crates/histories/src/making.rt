@@ -1,5 +1,5 @@
 // One call on a finder.
-ghost use Rattle.std.specs.Prelude.{◌≡◌, length, take};
+ghost use Rattle.std.specs.Prelude.{◌≡◌, length, take, IfOk};
 ghost use Rattle.words.specs.Refusals.{closing_told};
 ghost use Rattle.closing.specs.Closing.{lent, Closes};
 ghost use Rattle.catalogue.specs.Ledger.{Ledger, close};
@@ -7,8 +7,9 @@ ghost use Rattle.descent.specs.Proper.{CanHold};
 ghost use Rattle.catalogue.specs.Table.{table_of, Belongs};
 ghost use Rattle.catalogue.specs.View.{view, Moved};
 ghost use Rattle.histories.specs.Calls.{rooms, heard};
-ghost use Rattle.histories.specs.Sayings.{said};
+ghost use Rattle.histories.specs.Sayings.{given, said, Replies};
 ghost use Rattle.histories.specs.Holds.{Holds, Answered, SameMemory};
+ghost use Rattle.histories.specs.RingLists.{RingLeft};
 
 use super::calls::Call;
 use super::memory::{Lists, handed};
@@ -49,6 +50,8 @@ pub fn make<C: Code + Drop>(
     ensures lent { SameMemory lists.old lists.new }
     ensures proper { CanHold (view catalogue.old).book.wide (view catalogue.old).book.kinds (view catalogue.old).book.lines }
     ensures answered { (l : Ledger) → Holds (view catalogue.old) (table_of C.Truth.sort lists.old.table.now) l → Answered l (heard (rooms lists.old) call.entry) (said (λ count. take count lists.new.words.now) result) (view catalogue.new) (table_of C.Truth.sort lists.new.table.now) }
+    ensures replies { IfOk result (λ reply. Replies (length lists.new.words.now) (given (view catalogue.old).book (heard (rooms lists.old) call.entry)) reply) }
+    ensures ring { RingLeft (view catalogue.old).book.lines lists.old.ring.now lists.new.ring.now result }
 {
     // One by one: the check does not cover a pattern over a lent struct of `&mut`s.
     let table = &mut *lists.table;

@@ -2,6 +2,7 @@
 ghost use Rattle.std.specs.Prelude.{◌≡◌, ◌++◌, min, length, IfOk};
 ghost use Rattle.std.specs.Borrow.{sem, LendsBoth, Array};
 ghost use Rattle.histories.specs.Calls.{rooms, rooms_of, full_rooms};
+ghost use Rattle.histories.specs.Holds.{SameItems};
 
 use catalogue::MAX_LINES;
 use codes::{Code, Truth};
@@ -39,7 +40,8 @@ pub struct Memory<R> {
 impl<R> Memory<R> {
     // All of them, for a call or more.
     pub fn lend(&mut self) -> Lists<'_, R>
-        ensures { rooms result ≡ rooms_of self.old }
+        ensures rooms { rooms result ≡ rooms_of self.old }
+        ensures items { SameItems self.old result }
     {
         Lists {
             table: &mut self.table,

@@ -11,6 +11,7 @@ use Rattle.histories.specs.Sayings.{verdict}
 use Rattle.histories.proofs.Prefixes.{start_belongs}
 use Rattle.histories.proofs.Sayings.{words_given, table_long}
 use Rattle.histories.proofs.Closings.{closing_keeps}
+use Rattle.histories.proofs.RingLists.{closing_left}
 use Rattle.histories.proofs.Holding.{answered_same, answered_moved, at_call}
 use Rattle.histories.proofs.making.make.Goals as goal
 
@@ -33,6 +34,12 @@ returns-in-Close-clause-answered g c =
     (λ l h. answered_moved closing_told _ _ _ _ (λ _. refl) (c.close_over.ensures.moved h.belongs.wide) c.told-in-Close.ensures
     (closing_keeps sort old c.close_over.new.catalogue rows.result.0.now c.close_over.new.table rows.result.1.now _ _ _ _ _ _ c.close_over.result
     c.close_over.auto.table c.close_over.ensures.moved c.close_over.ensures.lists c.close_over.ensures.belongs) l h)
+
+pub returns-in-Close-clause-ring : goal.returns-in-Close-clause-ring
+returns-in-Close-clause-ring g c =
+    let ring = c.handed-in-Close-4 in
+    closing_left g.C.Truth.sort _ _ _ _ _ _ ring.result.1.now c.args.lists.now.ring.now c.close_over.result c.told-in-Close.result
+    c.close_over.auto.ring ring.ensures.whole c.told-in-Close.ensures c.close_over.ensures.lists
 
 pub returns-in-Ask-clause-answered : goal.returns-in-Ask-clause-answered
 returns-in-Ask-clause-answered g c =
