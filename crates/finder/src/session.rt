@@ -95,10 +95,10 @@ impl<C: Code + Drop> Session<C> {
         let words = load_words(rt, path)?;
         let mut count = 0;
         let mut changed = 0;
+        let mut lists = self.memory.lend();
         // Counted by hand, since the number of all kits is written at the end besides.
         for kit in Kits::new(&words) {
             count += 1;
-            let mut lists = self.memory.lend();
             let call = Call::Recall {
                 words: kit,
                 answer: WHOLE,

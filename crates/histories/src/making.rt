@@ -41,7 +41,8 @@ fn close_over<C: Code + Drop>(
     })
 }
 
-// Makes a call, over the start of each list that it says or the whole of a shorter one.
+// Makes a call, over the start of each list that it says or the whole of a shorter one. Inlined, since a caller mostly knows which call.
+#[inline(always)]
 pub fn make<C: Code + Drop>(
     catalogue: &mut Catalogue,
     lists: &mut Lists<'_, C::Row>,

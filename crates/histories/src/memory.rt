@@ -39,6 +39,7 @@ pub struct Memory<R> {
 
 impl<R> Memory<R> {
     // All of them, for a call or more.
+    #[inline(always)]
     pub fn lend(&mut self) -> Lists<'_, R>
         ensures rooms { rooms result ≡ rooms_of self.old }
         ensures items { SameItems self.old result }
