@@ -47,11 +47,11 @@ impl Truth for Bits {
         self.words
     }
 
-    // Word by word: a row that is handed on whole is copied once more, which takes longer than all the rest.
+    // By index: handed on whole, or by `iter_mut`, a row is copied once more, which takes longer than all the rest.
     fn read(row: [u64; WORDS]) -> Bits {
         let mut words = [0; WORDS];
-        for (i, word) in words.iter_mut().enumerate() {
-            *word = row[i];
+        for i in 0..WORDS {
+            words[i] = row[i];
         }
         Bits { words }
     }

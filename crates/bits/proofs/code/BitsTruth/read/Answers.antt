@@ -12,7 +12,7 @@ invariant_of-result c =
       whole = l.invariant.0;
       fits = λ k. ⊎_elim
           (λ (h : k < 8). let fit = l.invariant.2 k (omega arith) in let same = l.invariant.1 k (omega arith) in omega arith)
-          (λ (h : 8 ≤ k). let none = get_or_past l.word-items k 0 (omega (arith, l.invariant.0)) in omega arith)
+          (λ (h : 8 ≤ k). let none = get_or_past l.words k 0 (omega (arith, l.invariant.0)) in omega arith)
           (cases_lt k 8);
     }
 
@@ -21,7 +21,7 @@ returns c =
     let l = c.loop-i in
     record {
       back = λ v e. same_words _ v
-          (ext_get_or 0 l.word-items v.words (l.invariant.0 ∙ sym v.whole)
+          (ext_get_or 0 l.words v.words (l.invariant.0 ∙ sym v.whole)
           (λ k h. l.invariant.1 k (omega (arith, l.invariant.0)) ∙ ap (λ words. get_or words k 0) e));
       set = λ p h. ap (λ n. bit_at n (p % 64)) (l.invariant.1 (p / 64) (omega arith));
     }
