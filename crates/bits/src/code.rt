@@ -47,7 +47,7 @@ impl Truth for Bits {
         self.words
     }
 
-    // By index: handed on whole, or by `iter_mut`, a row is copied once more, which takes longer than all the rest.
+    // Each word is read, which shows that it fits.
     fn read(row: [u64; WORDS]) -> Bits {
         let mut words = [0; WORDS];
         for i in 0..WORDS {
