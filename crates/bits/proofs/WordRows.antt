@@ -1,13 +1,9 @@
 -- Rows of words: a loop over all of them, a write to one, and a search.
-use Rattle.std.proofs.Common.{◌≡◌, ℕ, ◌+◌, ◌-◌, ◌*◌, ◌/◌, ◌%◌, ◌^◌, ◌<◌, ◌≤◌, Bool, true, false, cond, not, ◌&&◌, ◌||◌, eqb, ltb, ◌≢◌, List, length, get_or, set, take, drop, position, Some, None, sym, ap, ◌∙◌, subst, ⊎_elim, arith}
+use Rattle.std.proofs.Common.{◌≡◌, ℕ, ◌+◌, ◌-◌, ◌*◌, ◌/◌, ◌%◌, ◌^◌, ◌<◌, ◌≤◌, Bool, true, false, cond, not, ◌&&◌, ◌||◌, eqb, ltb, ◌≢◌, List, length, get_or, set, take, drop, Some, sym, ap, ◌∙◌, subst, ⊎_elim, arith}
 use lib.Bits.{bit_and, bit_or}
 use lib.Count.{count_trailing_zeros}
 use Rattle.std.proofs.lemmas.Nat.{shr_le}
-use Rattle.std.specs.List.{position_or_len}
-use Rattle.std.proofs.lemmas.Grind.{common_steps}
-use Rattle.std.proofs.lemmas.List.Sums.{fails_before_first}
 use Rattle.std.proofs.lemmas.List.{get_or-set_same, get_or-set_other, get_or-drop, length-drop, take_rest}
-use Rattle.std.proofs.lemmas.List.Quantifiers.{position-Some}
 use Rattle.std.proofs.lemmas.Bool.{cases_eq, lt-ltb, cond-true}
 use Rattle.std.proofs.lemmas.Bool.Decides.{nat_tests}
 use Rattle.bits.specs.Bits.{bit_at, words_have}
@@ -99,39 +95,16 @@ module _ (words : List ℕ) (i a from rest : ℕ) (start : from ≡ i * 64 + a) 
         (λ p l b. in_rest p l (omega arith) ∙ zeros-before rest (p - from) some small (omega arith)),
       )
 
-abbrev pub some_bit : ℕ → Bool
-some_bit word = not (eqb word 0)
+-- the words from the word `start` on
+abbrev pub later : List ℕ → ℕ → List ℕ
+later words start = take (8 - start) (drop start words)
 
--- before the first word that is not 0, of those from the word `start` on, there is no place
 module _ (words : List ℕ) (start : ℕ) (whole : length words ≡ 8) where
-  abbrev later : List ℕ
-  later = take (8 - start) (drop start words)
-
-  later_is : later ≡ drop start words
+  later_is : later words start ≡ drop start words
   later_is = subst (λ (n : ℕ). take (n - start) (drop start words) ≡ drop start words) whole (take_rest words start)
 
-  none_passed : (p : ℕ) → start * 64 ≤ p → p / 64 - start < position_or_len some_bit later → words_have words p ≡ false
-  none_passed p h l =
-      let k = p / 64 - start in
-      let there : start + k ≡ p / 64 = omega arith in
-      let fails = fails_before_first some_bit later k 0 l in
-      let zero_word : get_or words (p / 64) 0 ≡ 0 =
-      ap (λ (i : ℕ). get_or words i 0) (sym there) ∙ sym (get_or-drop start words k 0) ∙ ap (λ xs. get_or xs k 0) (sym later_is) ∙ grind (arith, nat_tests) in
-      ap (λ (n : ℕ). bit_at n (p % 64)) zero_word ∙ digit_zero (p % 64)
+  pub later_count : length (later words start) ≡ 8 - start
+  later_count = ap length later_is ∙ omega (arith, length-drop start words)
 
-  pub none_after : position some_bit later ≡ None → (p : ℕ) → start * 64 ≤ p → p < 512 → words_have words p ≡ false
-  none_after e p h l =
-      let count : length later ≡ 8 - start = ap length later_is ∙ omega (arith, length-drop start words) in
-      let all : length later ≤ position_or_len some_bit later = grind (arith, common_steps) in
-      none_passed p h (omega arith)
-
-  pub first_after : (skipped : ℕ) → position some_bit later ≡ Some skipped
-      → (start + skipped < 8) × (0 < get_or words (start + skipped) 0)
-      × ((p : ℕ) → start * 64 ≤ p → p < (start + skipped) * 64 → words_have words p ≡ false)
-  first_after skipped e =
-      let found = position-Some some_bit later skipped 0 e in
-      let at : position_or_len some_bit later ≡ skipped = grind (arith, common_steps) in
-      let count : length later ≡ 8 - start = ap length later_is ∙ omega (arith, length-drop start words) in
-      let some : 0 < get_or later skipped 0 = grind (arith, nat_tests) in
-      let same : get_or later skipped 0 ≡ get_or words (start + skipped) 0 = ap (λ xs. get_or xs skipped 0) later_is ∙ get_or-drop start words skipped 0 in
-      (omega arith, omega arith, λ p h l. none_passed p h (omega arith))
+  pub later_word : (k : ℕ) → get_or (later words start) k 0 ≡ get_or words (start + k) 0
+  later_word k = ap (λ xs. get_or xs k 0) later_is ∙ get_or-drop start words k 0

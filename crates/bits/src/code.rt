@@ -47,21 +47,9 @@ impl Truth for Bits {
         self.words
     }
 
-    // Each word is read, which shows that it fits.
     fn read(row: [u64; WORDS]) -> Bits {
-        let mut words = [0; WORDS];
-        for i in 0..WORDS {
-            words[i] = row[i];
-        }
-        Bits { words }
+        Bits { words: row }
     }
-}
-
-// The index of the first word that is not 0.
-fn first_not_zero(words: &[u64]) -> Option<usize>
-    ensures { result ≡ position (λ word. not (word == 0)) words.now }
-{
-    words.iter().position(|word| *word != 0)
 }
 
 impl Code for Bits {
@@ -86,7 +74,8 @@ impl Code for Bits {
         (self.words[place / WORD_BITS] >> (place % WORD_BITS)) & 1 == 1
     }
 
-    // What is left of the first word, and then the first word that is not 0.
+    // What is left of the first word, and then the first word that is not 0. The loop has the word at hand: taken
+    // from the row again by its index, it would keep the whole row in memory.
     fn next(&self, from: usize) -> Option<usize> {
         if from >= PLACES {
             return None;
@@ -96,8 +85,12 @@ impl Code for Bits {
         if rest != 0 {
             return Some(from + rest.trailing_zeros() as usize);
         }
-        let skipped = first_not_zero(&self.words[first + 1..])?;
-        let i = first + 1 + skipped;
-        Some(i * WORD_BITS + self.words[i].trailing_zeros() as usize)
+        for (skipped, word) in self.words[first + 1..].iter().enumerate() {
+            if *word != 0 {
+                let i = first + 1 + skipped;
+                return Some(i * WORD_BITS + word.trailing_zeros() as usize);
+            }
+        }
+        None
     }
 }
