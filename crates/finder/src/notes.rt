@@ -1,8 +1,10 @@
 // The lines that the program writes for people; each begins with `#`.
 use super::options::CodeName;
 use protocol::write_refusal;
+use std::alloc::AllocError;
+use std::io;
 use std::io::Write;
-use std::{fmt, io};
+use terminal::write_decimal;
 use words::{Refusal, low_bits};
 
 const HELP: &str =
@@ -36,34 +38,49 @@ pub fn write_standing(out: &mut Vec<u8>, kinds: usize, lines: usize) -> io::Resu
     writeln!(out, "# kinds: {kinds}, lines: {lines}")
 }
 
-// A kit that lost kinds: those that it named, and those that stand. Kits are counted from 1.
-pub fn write_lost(out: &mut Vec<u8>, number: usize, kit: &[u32], left: &[u32]) -> io::Result<()> {
-    let named = Serials(kit);
-    let standing = Serials(left);
-    writeln!(out, "# kit {number}: named{named}; standing{standing}")
+// A kit that lost kinds: those that it named, and those that stand. By hand, as all that is told of a kit: a file may have
+// thousands, and by `writeln!` their lines took twice as long.
+pub fn write_lost(
+    out: &mut Vec<u8>,
+    number: usize,
+    kit: &[u32],
+    left: &[u32],
+) -> Result<(), AllocError> {
+    write_kit(out, number)?;
+    out.extend_from_slice(b"named")?;
+    write_serials(out, kit)?;
+    out.extend_from_slice(b"; standing")?;
+    write_serials(out, left)?;
+    out.extend_from_slice(b"\n")
 }
 
-pub fn write_refused_kit(out: &mut Vec<u8>, number: usize, told: Refusal) -> io::Result<()> {
-    write!(out, "# kit {number}: ")?;
-    write_refusal(out, told)?;
-    Ok(())
+pub fn write_refused_kit(
+    out: &mut Vec<u8>,
+    number: usize,
+    told: Refusal,
+) -> Result<(), AllocError> {
+    write_kit(out, number)?;
+    write_refusal(out, told)
+}
+
+// Kits are counted from 1.
+fn write_kit(out: &mut Vec<u8>, number: usize) -> Result<(), AllocError> {
+    out.extend_from_slice(b"# kit ")?;
+    write_decimal(out, number as u64)?;
+    out.extend_from_slice(b": ")
 }
 
 // The serials of the names behind an answer's head, each behind a space.
-#[derive(Clone, Copy)]
-struct Serials<'a>(&'a [u32]);
-
-impl fmt::Display for Serials<'_> {
-    fn fmt<W: fmt::Write>(&self, f: &mut fmt::Formatter<W>) -> fmt::Result {
-        let [_, names @ ..] = self.0 else {
-            return Ok(());
-        };
-        if names.is_empty() {
-            return f.write_str(" none");
-        }
-        for name in names {
-            write!(f, " {}", low_bits(*name))?;
-        }
-        Ok(())
+fn write_serials(out: &mut Vec<u8>, answer: &[u32]) -> Result<(), AllocError> {
+    let [_, names @ ..] = answer else {
+        return Ok(());
+    };
+    if names.is_empty() {
+        return out.extend_from_slice(b" none");
     }
+    for name in names {
+        out.extend_from_slice(b" ")?;
+        write_decimal(out, low_bits(*name) as u64)?;
+    }
+    Ok(())
 }
