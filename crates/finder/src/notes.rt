@@ -7,6 +7,9 @@ use std::io::Write;
 use terminal::write_decimal;
 use words::{Refusal, low_bits};
 
+// As long as the longest greeting.
+const GREETING_LEN: usize = 44;
+
 const HELP: &str =
     "# one call a line; serials are decimal, words eight hexadecimal digits, fields apart by spaces
 # enter SERIAL            enter a kind
@@ -26,7 +29,9 @@ const HELP: &str =
 # answers: ok, ok WORDS, ok KITS CHANGED, refused NUMBER at INDEX by PART (ring WORDS), error and why
 ";
 
+// The first that goes into `out`, which doubles as it grows: so the start is room for the whole line, not for its first piece.
 pub fn write_greeting(out: &mut Vec<u8>, code: CodeName) -> io::Result<()> {
+    out.reserve(GREETING_LEN)?;
     writeln!(out, "# finder over {code}; help lists the calls")
 }
 
