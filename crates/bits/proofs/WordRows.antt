@@ -1,9 +1,11 @@
 -- Rows of words: a loop over all of them, a write to one, and a search.
-use Rattle.std.proofs.Common.{◌≡◌, ℕ, ◌+◌, ◌-◌, ◌*◌, ◌/◌, ◌%◌, ◌^◌, ◌<◌, ◌≤◌, Bool, true, false, cond, not, ◌&&◌, ◌||◌, eqb, ltb, ◌≢◌, List, length, get_or, set, take, drop, Some, sym, ap, ◌∙◌, subst, ⊎_elim, arith}
+use Rattle.std.proofs.Common.{◌≡◌, ℕ, ◌+◌, ◌-◌, ◌*◌, ◌/◌, ◌%◌, ◌^◌, ◌<◌, ◌≤◌, Bool, true, false, cond, not, ◌&&◌, ◌||◌, eqb, ltb, ◌≢◌, List, length, get_or, set, drop, Some, sym, ap, ◌∙◌, subst, ⊎_elim, arith}
 use lib.Bits.{bit_and, bit_or}
 use lib.Count.{count_trailing_zeros}
 use Rattle.std.proofs.lemmas.Nat.{shr_le}
-use Rattle.std.proofs.lemmas.List.{get_or-set_same, get_or-set_other, get_or-drop, length-drop, take_rest}
+use Rattle.std.proofs.lemmas.List.{get_or-set_same, get_or-set_other, get_or-drop, get_or_default, length-drop}
+use Rattle.std.specs.List.{enumerate_from}
+use Rattle.std.proofs.lemmas.List.FromFn.{length-enumerate_from, get_or-enumerate_from}
 use Rattle.std.proofs.lemmas.Bool.{cases_eq, lt-ltb, cond-true}
 use Rattle.std.proofs.lemmas.Bool.Decides.{nat_tests}
 use Rattle.bits.specs.Bits.{bit_at, words_have}
@@ -95,16 +97,20 @@ module _ (words : List ℕ) (i a from rest : ℕ) (start : from ≡ i * 64 + a) 
         (λ p l b. in_rest p l (omega arith) ∙ zeros-before rest (p - from) some small (omega arith)),
       )
 
--- the words from the word `start` on
-abbrev pub later : List ℕ → ℕ → List ℕ
-later words start = take (8 - start) (drop start words)
+-- the words from the word `start` on, each with its index
+abbrev pub later : List ℕ → ℕ → List (ℕ × ℕ)
+later words start = drop start (enumerate_from 0 words)
 
-module _ (words : List ℕ) (start : ℕ) (whole : length words ≡ 8) where
-  later_is : later words start ≡ drop start words
-  later_is = subst (λ (n : ℕ). take (n - start) (drop start words) ≡ drop start words) whole (take_rest words start)
+pub later_count : (words : List ℕ) (start : ℕ) → length (later words start) ≡ length words - start
+later_count words start = omega (arith, length-drop start (enumerate_from 0 words), length-enumerate_from 0 words)
 
-  pub later_count : length (later words start) ≡ 8 - start
-  later_count = ap length later_is ∙ omega (arith, length-drop start words)
-
-  pub later_word : (k : ℕ) → get_or (later words start) k 0 ≡ get_or words (start + k) 0
-  later_word k = ap (λ xs. get_or xs k 0) later_is ∙ get_or-drop start words k 0
+pub later_word : (words : List ℕ) (start k i word : ℕ) → k < length (later words start) → (i, word) ≡ get_or (later words start) k (i, word)
+    → (i ≡ start + k) × (word ≡ get_or words i 0)
+later_word words start k i word within e =
+    let there : start + k < length words = omega (arith, later_count words start) in
+    let at : (i, word) ≡ (0 + (start + k), get_or words (start + k) word) =
+    e ∙ get_or-drop start (enumerate_from 0 words) k (i, word) ∙ get_or-enumerate_from 0 words (start + k) (i, word) there in
+    let index : i ≡ start + k = omega (arith, ap (λ (p : ℕ × ℕ). p.0) at) in (
+      index,
+      ap (λ (p : ℕ × ℕ). p.1) at ∙ get_or_default words (start + k) word 0 there ∙ ap (λ (j : ℕ). get_or words j 0) (sym index),
+    )

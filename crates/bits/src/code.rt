@@ -1,5 +1,4 @@
 // Bits as a sort of code: word by word, and one word for one place.
-ghost use Rattle.std.specs.Prelude.{◌≡◌, not, ◌==◌, position};
 ghost use Rattle.bits.specs.Bits.{bits_sort};
 ghost use Rattle.std.proofs.Common.{rules, arith};
 
@@ -85,9 +84,8 @@ impl Code for Bits {
         if rest != 0 {
             return Some(from + rest.trailing_zeros() as usize);
         }
-        for (skipped, word) in self.words[first + 1..].iter().enumerate() {
+        for (i, word) in self.words.iter().enumerate().skip(first + 1) {
             if *word != 0 {
-                let i = first + 1 + skipped;
                 return Some(i * WORD_BITS + word.trailing_zeros() as usize);
             }
         }
