@@ -1,10 +1,17 @@
 -- Rows of words: a loop over all of them, a write to one, and a search.
-use Rattle.std.proofs.Common.{◌≡◌, ℕ, ◌+◌, ◌-◌, ◌*◌, ◌/◌, ◌%◌, ◌^◌, ◌<◌, ◌≤◌, Bool, true, false, cond, not, ◌&&◌, ◌||◌, eqb, ltb, ◌≢◌, List, length, get_or, set, drop, Some, sym, ap, ◌∙◌, subst, ⊎_elim, arith}
+use Rattle.std.proofs.Common.{Iter, ◌≡◌, ℕ, ◌+◌, ◌-◌, ◌*◌, ◌/◌, ◌%◌, ◌^◌, ◌<◌, ◌≤◌, Bool, true, false, cond, not, ◌&&◌, ◌||◌, eqb, ltb, ◌≢◌, List, length, get_or, set, drop, Some, sym, ap, ◌∙◌, subst, ⊎_elim, arith}
 use lib.Bits.{bit_and, bit_or}
 use lib.Count.{count_trailing_zeros}
 use Rattle.std.proofs.lemmas.Nat.{shr_le}
 use Rattle.std.proofs.lemmas.List.{get_or-set_same, get_or-set_other, get_or-drop, get_or_default, length-drop}
 use Rattle.std.specs.List.{enumerate_from}
+use Rattle.std.specs.declared.iter.Skip.{Skip}
+use Rattle.std.specs.declared.iter.Enumerate.{Enumerate}
+use Rattle.std.specs.Iterator.Adapters.{skip_steps, skip_source, skip_count, enumerate_steps, enumerate_source, enumerate_count}
+use Rattle.std.proofs.lemmas.Fn.{fronts}
+use Rattle.std.proofs.lemmas.Iterator.{YieldsList, YieldsList-from_slice}
+use Rattle.std.proofs.lemmas.Iterator.Adapters.{YieldsList-from_skip}
+use Rattle.std.proofs.lemmas.Iterator.Consumers.{YieldsList-from_enumerate}
 use Rattle.std.proofs.lemmas.List.FromFn.{length-enumerate_from, get_or-enumerate_from}
 use Rattle.std.proofs.lemmas.Bool.{cases_eq, lt-ltb, cond-true}
 use Rattle.std.proofs.lemmas.Bool.Decides.{nat_tests}
@@ -100,6 +107,11 @@ module _ (words : List ℕ) (i a from rest : ℕ) (start : from ≡ i * 64 + a) 
 -- the words from the word `start` on, each with its index
 abbrev pub later : List ℕ → ℕ → List (ℕ × ℕ)
 later words start = drop start (enumerate_from 0 words)
+
+-- a `for` over them gives just these
+pub later_road : (words : List ℕ) (start : ℕ) (s : Skip (Enumerate (Iter ℕ))) → (enumerate_source (skip_source s)).rest.now ≡ words → enumerate_count (skip_source s) ≡ 0 → skip_count s ≡ start
+    → YieldsList (skip_steps (enumerate_steps fronts)) (λ p. (p.0, p.1.now)) s (later words start)
+later_road words start s rest count skipped = YieldsList-from_skip start (YieldsList-from_enumerate (YieldsList-from_slice words rest) count) skipped
 
 pub later_count : (words : List ℕ) (start : ℕ) → length (later words start) ≡ length words - start
 later_count words start = omega (arith, length-drop start (enumerate_from 0 words), length-enumerate_from 0 words)

@@ -73,8 +73,8 @@ impl Code for Bits {
         (self.words[place / WORD_BITS] >> (place % WORD_BITS)) & 1 == 1
     }
 
-    // What is left of the first word, and then the first word that is not 0. The loop has the word at hand: taken
-    // from the row again by its index, it would keep the whole row in memory.
+    // What is left of the first word, and then the first word that is not 0. That word is at hand in the loop: an index
+    // that only running tells, read after it, would force the row into memory.
     fn next(&self, from: usize) -> Option<usize> {
         if from >= PLACES {
             return None;

@@ -1,10 +1,8 @@
 use Rattle.std.proofs.Common.{◌+◌, ◌*◌, ◌/◌, ◌%◌, ◌<◌, ◌≤◌, length, [], ◌∷◌, refl, ⊎_elim, rules, arith}
 use Rattle.std.proofs.lemmas.Bool.{cases_lt}
 use Rattle.std.proofs.lemmas.List.{length-append}
-use Rattle.std.proofs.lemmas.Iterator.{YieldsList-from_slice}
-use Rattle.std.proofs.lemmas.Iterator.Adapters.{YieldsList-from_skip}
-use Rattle.std.proofs.lemmas.Iterator.Consumers.{YieldsList-from_enumerate, YieldsList-turn, YieldsList-end}
-use Rattle.bits.proofs.WordRows.{none_in_word, first_in_word, later_count, later_word}
+use Rattle.std.proofs.lemmas.Iterator.Consumers.{YieldsList-turn, YieldsList-end}
+use Rattle.bits.proofs.WordRows.{none_in_word, first_in_word, later_road, later_count, later_word}
 use Rattle.bits.proofs.code.BitsCode.next.Goals as goal
 
 pub returns-then-rest-ne0 : goal.returns-then-rest-ne0
@@ -22,7 +20,7 @@ loop-i-preserved c =
     let self = c.args.self.now in
     let start = c.args.from / 64 + 1 in
     let i = c.in-Some.i in
-    let road = YieldsList-from_skip {s = c.into_iter-i-iterator.result} (c.args.from / 64 + 1) (YieldsList-from_enumerate {s = c.into_iter-i-iterator.result.iter} (YieldsList-from_slice {s = c.into_iter-i-iterator.result.iter.iter} c.args.self.now.words (search rules)) (search rules)) (search rules) in
+    let road = later_road self.words start c.into_iter-i-iterator.result (search rules) (search rules) (search rules) in
     let turn = YieldsList-turn road c.loop-i.yielded _ c.loop-i.yielded_by _ _ (i, c.in-Some.word) c.in-Some.is c.next.ensures.steps in
     let at = later_word self.words start (length c.loop-i.yielded) i c.in-Some.word.now turn.0 turn.1 in
     let one = length-append c.loop-i.yielded ((i, c.in-Some.word) ∷ []) in
@@ -36,7 +34,7 @@ returns-then-word-ne0 c =
     let self = c.args.self.now in
     let start = c.args.from / 64 + 1 in
     let i = c.in-Some.i in
-    let road = YieldsList-from_skip {s = c.into_iter-i-iterator.result} (c.args.from / 64 + 1) (YieldsList-from_enumerate {s = c.into_iter-i-iterator.result.iter} (YieldsList-from_slice {s = c.into_iter-i-iterator.result.iter.iter} c.args.self.now.words (search rules)) (search rules)) (search rules) in
+    let road = later_road self.words start c.into_iter-i-iterator.result (search rules) (search rules) (search rules) in
     let turn = YieldsList-turn road c.loop-i.yielded _ c.loop-i.yielded_by _ _ (i, c.in-Some.word) c.in-Some.is c.next.ensures.steps in
     let at = later_word self.words start (length c.loop-i.yielded) i c.in-Some.word.now turn.0 turn.1 in
     let count = later_count self.words start in
@@ -51,7 +49,7 @@ pub returns : goal.returns
 returns c =
     let self = c.args.self.now in
     let start = c.args.from / 64 + 1 in
-    let road = YieldsList-from_skip {s = c.into_iter-i-iterator.result} (c.args.from / 64 + 1) (YieldsList-from_enumerate {s = c.into_iter-i-iterator.result.iter} (YieldsList-from_slice {s = c.into_iter-i-iterator.result.iter.iter} c.args.self.now.words (search rules)) (search rules)) (search rules) in
+    let road = later_road self.words start c.into_iter-i-iterator.result (search rules) (search rules) (search rules) in
     let end = YieldsList-end road c.loop-i.yielded _ c.loop-i.yielded_by _ _ c.in-None.is c.next.ensures.steps in
     let count = later_count self.words start in
     λ p h l. c.loop-i.invariant p h (omega (arith, self.whole, count, end.1))
